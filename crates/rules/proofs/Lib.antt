@@ -1,0 +1,40 @@
+-- The laws, for any width W. Each file says what it is about; later ones cite earlier ones.
+
+-- numbers and their bits
+pub mod Bit
+pub mod Weigh
+pub mod Digits
+-- rows of bits, and what writing a run of them leaves
+pub mod Row
+pub mod Splice
+pub mod Word
+pub mod Part
+pub mod Copy
+-- fields: numbers in a row
+pub mod Field
+pub mod Pieces
+pub mod Signed
+pub mod Bounds
+pub mod Machine
+pub mod Masks
+pub mod Chunk
+pub mod Funnel
+-- searches
+pub mod Search
+-- spans, refusals and document 01's sentences
+pub mod Spans
+pub mod Tables
+pub mod Accepted
+pub mod Room
+pub mod Widths
+pub mod Wordless
+pub mod Sentences
+pub mod SingleBit
+pub mod OneAnswer
+pub mod OnlyOne
+-- the third demand
+pub mod Parties
+pub mod Footprints
+pub mod Isolation
+pub mod IsolationExample
+pub mod Tight

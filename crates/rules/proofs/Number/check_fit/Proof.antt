@@ -1,0 +1,50 @@
+use borrow.Author.Needs.{needs}
+use Rattle.rules.proofs.Number.check_fit.Statement.{statement}
+use Rattle.rules.proofs.Number.check_fit.Tie as tie
+use mathlib.Core.Path.{_≡_, sym, ap, _∙_}
+use mathlib.Core.Bool.{not}
+use native.Mathlib.Omega.{arith}
+use Rattle.rules.specs.Types.{Fine}
+use Rattle.rules.specs.Fields.{whole}
+use Rattle.rules.specs.Refusals.{verdict, valueCases, fittingCases}
+use Rattle.rules.proofs.Tables.{stops, last-holds, last-clear}
+use Rattle.rules.proofs.Accepted.{fine-valued}
+
+fine : (c : tie.After-enum-told) → verdict ((let a = c .before .before .before .args in valueCases (a .k) (a .len) (a .sign) (whole (a .self)))) ≡ Fine
+fine c = sym (c .before .before .check .ensures) ∙ c .enum-told .given .1
+
+check-requires : tie.Need-check-requires
+check-requires c κs = search needs
+
+enum-known-verdict : tie.Need-enum-known-verdict
+enum-known-verdict c = search needs
+
+enum-told : tie.Need-enum-told
+enum-told c = search needs
+
+fits-requires : tie.Need-fits-requires
+fits-requires c κs = let v = fine-valued _ _ _ _ (fine c) in let s = v .sized in (omega arith, omega arith)
+
+returns : tie.Need-returns
+unfolding fittingCases
+returns c = sym (stops _ _ (sym (c .before .before .before .check .ensures) ∙ c .before .verdict .given .1))
+
+returns-2 : tie.Need-returns-2
+unfolding fittingCases
+returns-2 c = sym (last-clear _ _ _ (fine (c .before .before)) (ap not (sym (c .before .fits2 .ensures) ∙ c .if1 .taken)))
+
+returns-3 : tie.Need-returns-3
+unfolding fittingCases
+returns-3 c = sym (last-holds _ _ _ (fine (c .before .before)) (ap not (sym (c .before .fits2 .ensures) ∙ c .if1 .left)))
+
+pub check-fit-spec : {M : Type 1} → statement M
+check-fit-spec =
+    tie.close
+    (tie.spec
+    check-requires
+    enum-known-verdict
+    enum-told
+    fits-requires
+    returns
+    returns-2
+    returns-3)

@@ -1,0 +1,17 @@
+use borrow.Author.Needs.{needs}
+use Rattle.rules.proofs.Position.select.Statement.{statement}
+use Rattle.rules.proofs.Position.select.Tie as tie
+use lib.Dec.{lit<}
+use lib.Pow.{shl-exact}
+use native.Mathlib.Nat.{one-mul}
+use native.Mathlib.Omega.{arith}
+use mathlib.Core.Path.{_∙_}
+
+shl-t4 : tie.Need-shl-t4
+shl-t4 c = search needs
+
+returns : tie.Need-returns
+returns c = shl-exact 1 (c .args .self .0) 64 (lit< tt) (omega arith) ∙ one-mul _
+
+pub select-spec : {M : Type 1} → statement M
+select-spec = tie.close (tie.spec shl-t4 returns)

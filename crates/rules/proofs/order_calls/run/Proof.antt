@@ -1,0 +1,55 @@
+use borrow.Author.Needs.{needs}
+use Rattle.rules.proofs.order_calls.run.Statement.{statement}
+use Rattle.rules.proofs.order_calls.run.Tie as tie
+use Rattle.rules.proofs.Wordless.{moved-ones, lowest-lsb0, lowest-msb0, empty-mask}
+use native.Mathlib.Omega.{arith}
+use Rattle.rules.proofs.Widths.{bits-upto}
+
+sub-low-ones : tie.Need-sub-low-ones
+sub-low-ones c = search needs
+
+low-ones-requires : tie.Need-low-ones-requires
+low-ones-requires c κs = omega (arith, bits-upto (c .args .width))
+
+enum-told : tie.Need-enum-told
+enum-told c = search needs
+
+shl-t10 : tie.Need-shl-t10
+shl-t10 c = omega (arith, bits-upto (c .before .before .before .args .width))
+
+enum-told-2 : tie.Need-enum-told-2
+enum-told-2 c = search needs
+
+returns : tie.Need-returns
+returns c = empty-mask _ _ _ _ (c .if1 .taken)
+
+bits-requires : tie.Need-bits-requires
+bits-requires c κs = search needs
+
+sub-low : tie.Need-sub-low
+sub-low c = search needs
+
+shl-t14 : tie.Need-shl-t14
+shl-t14 c = let a = c .before .before .before .before .before .args in let p = c .before .before .before .before .before .pre in let h = c .bits .ensures in omega (arith, bits-upto (a .width))
+
+returns-2 : tie.Need-returns-2
+returns-2 c = let a = c .before .before .before .args in let p = c .before .before .before .pre in moved-ones _ _ _ _ _ (bits-upto (a .width)) (p .1) (p .2) (c .before .before .low-ones .ensures) (lowest-lsb0 _ _ _ (c .enum-told .given .1)) (omega (arith, bits-upto (a .width)))
+
+returns-3 : tie.Need-returns-3
+returns-3 c = let a = c .before .before .before .before .before .args in let p = c .before .before .before .before .before .pre in let h = c .bits .ensures in moved-ones _ _ _ _ _ (bits-upto (a .width)) (p .1) (p .2) (c .before .before .before .before .low-ones .ensures) (rw h (lowest-msb0 _ _ _ (c .before .before .enum-told2 .given .1) (p .1))) (omega (arith, bits-upto (a .width)))
+
+pub run-spec : {M : Type 1} → statement M
+run-spec =
+    tie.close
+    (tie.spec
+    sub-low-ones
+    low-ones-requires
+    enum-told
+    shl-t10
+    enum-told-2
+    returns
+    bits-requires
+    sub-low
+    shl-t14
+    returns-2
+    returns-3)

@@ -1,0 +1,41 @@
+// The numbers of refusals and of boolean operations.
+use crate::Operation;
+use crate::Refusal;
+ghost use mathlib.Core.Path.{_≡_};
+ghost use Rattle.rules.specs.Rows.{operation};
+ghost use Rattle.rules.specs.Refusals.{number};
+
+impl Refusal {
+    // The number by which document 01 knows it.
+    pub fn number(self) -> u8
+        ensures { λ r. ⌜ r ≡ number self ⌝ }
+    {
+        let refusal = self;
+        match refusal {
+            Refusal::TooManyWords => 1,
+            Refusal::IndexTooLarge => 2,
+            Refusal::OutOfBounds => 3,
+            Refusal::NoSuchK => 4,
+            Refusal::FieldLength => 5,
+            Refusal::OrdersDiffer => 6,
+            Refusal::LengthsDiffer => 7,
+            Refusal::NotAnInteger => 8,
+            Refusal::DoesNotFit => 9,
+            Refusal::NotBelow => 10,
+        }
+    }
+}
+
+impl Operation {
+    // The number of its truth table.
+    pub fn number(self) -> u8
+        ensures { λ r. ⌜ r ≡ operation self ⌝ }
+    {
+        let named = self;
+        match named {
+            Operation::And => 8,
+            Operation::Or => 14,
+            Operation::Xor => 6,
+        }
+    }
+}

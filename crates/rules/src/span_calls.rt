@@ -1,0 +1,125 @@
+// Spans: refusals 1 to 3, split, shortening and shifting.
+use crate::Halves;
+use crate::Index;
+use crate::Refusal;
+use crate::Span;
+use crate::SpanAnswer;
+use crate::SplitAnswer;
+use crate::Verdict;
+use crate::Width;
+ghost use mathlib.Core.Path.{_≡_};
+ghost use Prim.Native.Nat.{_≤_};
+ghost use Rattle.rules.specs.Types.{Fine};
+ghost use Rattle.rules.specs.Bits.{bits};
+ghost use Rattle.rules.specs.Positions.{firstHalf, secondHalf};
+ghost use Rattle.rules.specs.Refusals.{verdict, spanCases, splitCases};
+ghost use Rattle.rules.specs.Calls.{splitAnswer, shortenAnswer, shiftAnswer};
+ghost use Rattle.rules.specs.Answers.{splitSays, spanSays};
+
+impl Span {
+    // Refusals 1 to 3 over `lent` words. Nothing is summed before it is known to be small, so any numbers get an answer.
+    pub fn check(self, width: Width, lent: usize) -> Verdict
+        ensures { λ r. ⌜ r ≡ verdict (spanCases (bits width) lent self) ⌝ }
+    {
+        let w = width.bits();
+        let head = self.head.0;
+        let word = self.word;
+        let len = self.len;
+        if 65536 < lent {
+            return Verdict::Refused(Refusal::TooManyWords);
+        }
+        if w <= head {
+            return Verdict::Refused(Refusal::IndexTooLarge);
+        }
+        if lent < word {
+            return Verdict::Refused(Refusal::OutOfBounds);
+        }
+        let room = (lent - word) * w;
+        if room < head {
+            return Verdict::Refused(Refusal::OutOfBounds);
+        }
+        if room - head < len {
+            return Verdict::Refused(Refusal::OutOfBounds);
+        }
+        Verdict::Fine
+    }
+
+    // Refusals 1 to 3, and 10 where the place p is above the length.
+    pub fn check_place(self, width: Width, lent: usize, p: usize) -> Verdict
+        ensures { λ r. ⌜ r ≡ verdict (splitCases (bits width) lent self p) ⌝ }
+    {
+        let verdict = self.check(width, lent);
+        match verdict {
+            Verdict::Refused(no) => Verdict::Refused(no),
+            Verdict::Fine => {
+                if self.len < p {
+                    Verdict::Refused(Refusal::NotBelow)
+                } else {
+                    Verdict::Fine
+                }
+            }
+        }
+    }
+
+    // The first p bits of a span that has as many.
+    fn first(self, p: usize) -> Span
+        ensures { λ r. ⌜ r ≡ firstHalf self p ⌝ }
+    {
+        let mut span = self;
+        span.len = p;
+        span
+    }
+
+    // What is left of an in-bounds span after its first p bits.
+    fn rest(self, width: Width, lent: usize, p: usize) -> Span
+        requires { ⌜ verdict (splitCases (bits width) lent self p) ≡ Fine ⌝ }
+        ensures { λ r. ⌜ r ≡ secondHalf (bits width) self p ⌝ }
+    {
+        let w = width.bits();
+        let t = self.head.0 + p;
+        let order = self.order;
+        Span {
+            order,
+            word: self.word + t / w,
+            head: Index(t % w),
+            len: self.len - p,
+        }
+    }
+
+    // The first p bits and the rest, which begins where bit p would; 1 to 3, and 10 where p is above the length.
+    pub fn split(self, width: Width, lent: usize, p: usize) -> SplitAnswer
+        ensures { λ r. ⌜ splitSays r ≡ splitAnswer (bits width) lent self p ⌝ }
+    {
+        let verdict = self.check_place(width, lent, p);
+        match verdict {
+            Verdict::Refused(no) => SplitAnswer::Refused(no),
+            Verdict::Fine => {
+                let left = self.first(p);
+                let rest = self.rest(width, lent, p);
+                SplitAnswer::Parts(Halves { left, rest })
+            }
+        }
+    }
+
+    // The first p bits; refused as split is.
+    pub fn shorten(self, width: Width, lent: usize, p: usize) -> SpanAnswer
+        ensures { λ r. ⌜ spanSays r ≡ shortenAnswer (bits width) lent self p ⌝ }
+    {
+        let verdict = self.check_place(width, lent, p);
+        match verdict {
+            Verdict::Refused(no) => SpanAnswer::Refused(no),
+            Verdict::Fine => SpanAnswer::Is(self.first(p)),
+        }
+    }
+
+    // What is left after the first p bits; refused as split is.
+    pub fn shift(self, width: Width, lent: usize, p: usize) -> SpanAnswer
+        ensures { λ r. ⌜ spanSays r ≡ shiftAnswer (bits width) lent self p ⌝ }
+    {
+        let verdict = self.check_place(width, lent, p);
+        match verdict {
+            Verdict::Refused(no) => SpanAnswer::Refused(no),
+            Verdict::Fine => SpanAnswer::Is(self.rest(width, lent, p)),
+        }
+    }
+}

@@ -1,0 +1,172 @@
+// The limits of spans: at, below and above each, and sums that pass 2^64. A span is written word:head+length.
+use crate::show;
+use rules::Index;
+use rules::Order;
+use rules::Span;
+use rules::Width;
+
+pub fn run() {
+    show::text(b"spans                                    | W = 8 | W = 64\n");
+    check(
+        b"0:0+8 of 65,536 words                    | ",
+        65536,
+        0,
+        0,
+        8,
+    );
+    check(
+        b"0:0+8 of 65,537 words                    | ",
+        65537,
+        0,
+        0,
+        8,
+    );
+    check(b"0:7+1 of 1 word                          | ", 1, 0, 7, 1);
+    check(b"0:8+1 of 2 words                         | ", 2, 0, 8, 1);
+    check(b"0:63+1 of 1 word                         | ", 1, 0, 63, 1);
+    check(b"0:64+1 of 2 words                        | ", 2, 0, 64, 1);
+    check(b"0:0+8 of 1 word                          | ", 1, 0, 0, 8);
+    check(b"0:0+9 of 1 word                          | ", 1, 0, 0, 9);
+    check(b"0:0+64 of 1 word                         | ", 1, 0, 0, 64);
+    check(b"0:0+65 of 1 word                         | ", 1, 0, 0, 65);
+    check(b"1:0+0 of 1 word (empty, at the very end) | ", 1, 1, 0, 0);
+    check(b"1:1+0 of 1 word                          | ", 1, 1, 1, 0);
+    check(b"2:0+0 of 1 word                          | ", 1, 2, 0, 0);
+    check(b"0:0+0 of no words                        | ", 0, 0, 0, 0);
+    check(
+        b"2^61:0+0 of 1 word                       | ",
+        1,
+        0x2000_0000_0000_0000,
+        0,
+        0,
+    );
+    check(
+        b"2^64-1:7+(2^64-1) of 65,536 words        | ",
+        65536,
+        0xffff_ffff_ffff_ffff,
+        7,
+        0xffff_ffff_ffff_ffff,
+    );
+    check(
+        b"0:7+(2^64-1) of 65,536 words             | ",
+        65536,
+        0,
+        7,
+        0xffff_ffff_ffff_ffff,
+    );
+    check(
+        b"0:(2^64-1)+1 of 65,537 words             | ",
+        65537,
+        0,
+        0xffff_ffff_ffff_ffff,
+        1,
+    );
+    split(
+        b"0:4+16 of 3 words split at 0             | ",
+        3,
+        0,
+        4,
+        16,
+        0,
+    );
+    split(
+        b"0:4+16 of 3 words split at 6             | ",
+        3,
+        0,
+        4,
+        16,
+        6,
+    );
+    split(
+        b"0:4+16 of 3 words split at 16            | ",
+        3,
+        0,
+        4,
+        16,
+        16,
+    );
+    split(
+        b"0:4+16 of 3 words split at 17            | ",
+        3,
+        0,
+        4,
+        16,
+        17,
+    );
+    split(
+        b"0:4+16 of 3 words split at 2^64 - 1      | ",
+        3,
+        0,
+        4,
+        16,
+        0xffff_ffff_ffff_ffff,
+    );
+    cut(
+        b"0:4+16 of 3 words shortened to 6         | ",
+        b"0:4+16 of 3 words shifted by 6           | ",
+        3,
+        0,
+        4,
+        16,
+        6,
+    );
+    cut(
+        b"0:4+16 of 3 words shortened to 17        | ",
+        b"0:4+16 of 3 words shifted by 17          | ",
+        3,
+        0,
+        4,
+        16,
+        17,
+    );
+    show::end();
+}
+
+fn at(word: usize, head: usize, len: usize) -> Span {
+    Span {
+        order: Order::Lsb0,
+        word,
+        head: Index(head),
+        len,
+    }
+}
+
+fn check(name: &[u8], lent: usize, word: usize, head: usize, len: usize) {
+    let span = at(word, head, len);
+    show::text(name);
+    show::verdict(span.check(Width::W8, lent));
+    show::next();
+    show::verdict(span.check(Width::W64, lent));
+    show::end();
+}
+
+fn split(name: &[u8], lent: usize, word: usize, head: usize, len: usize, place: usize) {
+    let span = at(word, head, len);
+    show::text(name);
+    show::two_spans(span.split(Width::W8, lent, place));
+    show::next();
+    show::two_spans(span.split(Width::W64, lent, place));
+    show::end();
+}
+
+fn cut(
+    shortened: &[u8],
+    shifted: &[u8],
+    lent: usize,
+    word: usize,
+    head: usize,
+    len: usize,
+    place: usize,
+) {
+    let span = at(word, head, len);
+    show::text(shortened);
+    show::one_span(span.shorten(Width::W8, lent, place));
+    show::next();
+    show::one_span(span.shorten(Width::W64, lent, place));
+    show::end();
+    show::text(shifted);
+    show::one_span(span.shift(Width::W8, lent, place));
+    show::next();
+    show::one_span(span.shift(Width::W64, lent, place));
+    show::end();
+}

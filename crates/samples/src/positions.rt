@@ -1,0 +1,135 @@
+// Positions, selectors and masks, at both widths and in both orders.
+use crate::show;
+use rules::End;
+use rules::Index;
+use rules::Order;
+use rules::Width;
+
+pub fn run() {
+    show::text(b"positions, selectors and masks           | Lsb0 | Msb0\n");
+    position(b"position of index 0, W = 8               | ", Width::W8, 0);
+    position(b"position of index 7, W = 8               | ", Width::W8, 7);
+    position(b"position of index 8, W = 8               | ", Width::W8, 8);
+    position(
+        b"position of index 0, W = 64              | ",
+        Width::W64,
+        0,
+    );
+    position(
+        b"position of index 63, W = 64             | ",
+        Width::W64,
+        63,
+    );
+    position(
+        b"position of index 64, W = 64             | ",
+        Width::W64,
+        64,
+    );
+    position(
+        b"position of index 2^64 - 1, W = 64       | ",
+        Width::W64,
+        0xffff_ffff_ffff_ffff,
+    );
+    selector(b"selector of index 2, W = 8               | ", Width::W8, 2);
+    selector(
+        b"selector of index 0, W = 64              | ",
+        Width::W64,
+        0,
+    );
+    selector(
+        b"selector of index 64, W = 64             | ",
+        Width::W64,
+        64,
+    );
+    mask(
+        b"mask 2 up to 5, W = 8                    | ",
+        Width::W8,
+        2,
+        5,
+    );
+    mask(
+        b"mask 0 up to 8, W = 8                    | ",
+        Width::W8,
+        0,
+        8,
+    );
+    mask(
+        b"mask 3 up to 3, W = 8                    | ",
+        Width::W8,
+        3,
+        3,
+    );
+    mask(
+        b"mask 7 up to 8, W = 8                    | ",
+        Width::W8,
+        7,
+        8,
+    );
+    mask(
+        b"mask 8 up to 8, W = 8                    | ",
+        Width::W8,
+        8,
+        8,
+    );
+    mask(
+        b"mask 2 up to 9, W = 8                    | ",
+        Width::W8,
+        2,
+        9,
+    );
+    mask(
+        b"mask 5 up to 2, W = 8                    | ",
+        Width::W8,
+        5,
+        2,
+    );
+    mask(
+        b"mask 9 up to 2, W = 8                    | ",
+        Width::W8,
+        9,
+        2,
+    );
+    mask(
+        b"mask 0 up to 64, W = 64                  | ",
+        Width::W64,
+        0,
+        64,
+    );
+    mask(
+        b"mask 63 up to 64, W = 64                 | ",
+        Width::W64,
+        63,
+        64,
+    );
+    mask(
+        b"mask 64 up to 2^64 - 1, W = 64           | ",
+        Width::W64,
+        64,
+        0xffff_ffff_ffff_ffff,
+    );
+    show::end();
+}
+
+fn position(name: &[u8], width: Width, index: usize) {
+    show::text(name);
+    show::position(Order::Lsb0.at(width, Index(index)));
+    show::next();
+    show::position(Order::Msb0.at(width, Index(index)));
+    show::end();
+}
+
+fn selector(name: &[u8], width: Width, index: usize) {
+    show::text(name);
+    show::selector(Order::Lsb0.select(width, Index(index)));
+    show::next();
+    show::selector(Order::Msb0.select(width, Index(index)));
+    show::end();
+}
+
+fn mask(name: &[u8], width: Width, from: usize, upto: usize) {
+    show::text(name);
+    show::mask(Order::Lsb0.mask(width, Index(from), End(upto)));
+    show::next();
+    show::mask(Order::Msb0.mask(width, Index(from), End(upto)));
+    show::end();
+}
