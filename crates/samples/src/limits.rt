@@ -7,6 +7,16 @@ use rules::Width;
 
 pub fn run() {
     show::text(b"spans                                    | W = 8 | W = 64\n");
+    heads();
+    ends();
+    empty_spans();
+    large_numbers();
+    splits();
+    cuts();
+    show::end();
+}
+
+fn heads() {
     check(
         b"0:0+8 of 65,536 words                    | ",
         65536,
@@ -25,14 +35,23 @@ pub fn run() {
     check(b"0:8+1 of 2 words                         | ", 2, 0, 8, 1);
     check(b"0:63+1 of 1 word                         | ", 1, 0, 63, 1);
     check(b"0:64+1 of 2 words                        | ", 2, 0, 64, 1);
+}
+
+fn ends() {
     check(b"0:0+8 of 1 word                          | ", 1, 0, 0, 8);
     check(b"0:0+9 of 1 word                          | ", 1, 0, 0, 9);
     check(b"0:0+64 of 1 word                         | ", 1, 0, 0, 64);
     check(b"0:0+65 of 1 word                         | ", 1, 0, 0, 65);
+}
+
+fn empty_spans() {
     check(b"1:0+0 of 1 word (empty, at the very end) | ", 1, 1, 0, 0);
     check(b"1:1+0 of 1 word                          | ", 1, 1, 1, 0);
     check(b"2:0+0 of 1 word                          | ", 1, 2, 0, 0);
     check(b"0:0+0 of no words                        | ", 0, 0, 0, 0);
+}
+
+fn large_numbers() {
     check(
         b"2^61:0+0 of 1 word                       | ",
         1,
@@ -61,6 +80,9 @@ pub fn run() {
         0xffff_ffff_ffff_ffff,
         1,
     );
+}
+
+fn splits() {
     split(
         b"0:4+16 of 3 words split at 0             | ",
         3,
@@ -101,6 +123,9 @@ pub fn run() {
         16,
         0xffff_ffff_ffff_ffff,
     );
+}
+
+fn cuts() {
     cut(
         b"0:4+16 of 3 words shortened to 6         | ",
         b"0:4+16 of 3 words shifted by 6           | ",
@@ -119,7 +144,6 @@ pub fn run() {
         16,
         17,
     );
-    show::end();
 }
 
 fn at(word: usize, head: usize, len: usize) -> Span {

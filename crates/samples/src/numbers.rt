@@ -5,6 +5,21 @@ use rules::Sign;
 
 pub fn run() {
     show::text(b"fields                                   | answer\n");
+    fields();
+    show::end();
+    show::text(b"values                                   | stored | stored strictly\n");
+    unsigned_values();
+    signed_values();
+    large_values();
+    show::end();
+    show::text(b"loaded bits                              | unsigned | signed\n");
+    loaded_bits();
+    show::end();
+    show::text(b"as the machine's i64                     | answer\n");
+    machine_numbers();
+}
+
+fn fields() {
     field(b"K = 8, length 8                          | ", 8, 8);
     field(b"K = 8, length 9                          | ", 8, 9);
     field(b"K = 8, length 0                          | ", 8, 0);
@@ -16,8 +31,9 @@ pub fn run() {
         0xffff_ffff_ffff_ffff,
         0xffff_ffff_ffff_ffff,
     );
-    show::end();
-    show::text(b"values                                   | stored | stored strictly\n");
+}
+
+fn unsigned_values() {
     value(
         b"255 unsigned, K = 8, 8 bits              | ",
         8,
@@ -46,6 +62,9 @@ pub fn run() {
         Sign::Unsigned,
         Number::Down(0),
     );
+}
+
+fn signed_values() {
     value(
         b"127 signed, K = 8, 8 bits                | ",
         8,
@@ -88,6 +107,9 @@ pub fn run() {
         Sign::Signed,
         Number::Down(128),
     );
+}
+
+fn large_values() {
     value(
         b"2^64 - 1 unsigned, K = 64, 64 bits       | ",
         64,
@@ -123,8 +145,9 @@ pub fn run() {
         Sign::Signed,
         Number::Down(0xffff_ffff_ffff_ffff),
     );
-    show::end();
-    show::text(b"loaded bits                              | unsigned | signed\n");
+}
+
+fn loaded_bits() {
     loaded(b"CB, 8 bits                               | ", 0xCB, 8, 8);
     loaded(b"64, 8 bits                               | ", 0x64, 8, 8);
     loaded(b"6, 3 bits                                | ", 6, 8, 3);
@@ -136,8 +159,9 @@ pub fn run() {
         64,
         64,
     );
-    show::end();
-    show::text(b"as the machine's i64                     | answer\n");
+}
+
+fn machine_numbers() {
     machine(
         b"2^63 - 1                                 | ",
         Number::Up(0x7fff_ffff_ffff_ffff),

@@ -7,6 +7,15 @@ use rules::Width;
 
 pub fn run() {
     show::text(b"positions, selectors and masks           | Lsb0 | Msb0\n");
+    positions();
+    selectors();
+    masks_of_bytes();
+    masks_refused();
+    masks_of_words();
+    show::end();
+}
+
+fn positions() {
     position(b"position of index 0, W = 8               | ", Width::W8, 0);
     position(b"position of index 7, W = 8               | ", Width::W8, 7);
     position(b"position of index 8, W = 8               | ", Width::W8, 8);
@@ -30,6 +39,9 @@ pub fn run() {
         Width::W64,
         0xffff_ffff_ffff_ffff,
     );
+}
+
+fn selectors() {
     selector(b"selector of index 2, W = 8               | ", Width::W8, 2);
     selector(
         b"selector of index 0, W = 64              | ",
@@ -41,6 +53,9 @@ pub fn run() {
         Width::W64,
         64,
     );
+}
+
+fn masks_of_bytes() {
     mask(
         b"mask 2 up to 5, W = 8                    | ",
         Width::W8,
@@ -65,6 +80,9 @@ pub fn run() {
         7,
         8,
     );
+}
+
+fn masks_refused() {
     mask(
         b"mask 8 up to 8, W = 8                    | ",
         Width::W8,
@@ -89,6 +107,9 @@ pub fn run() {
         9,
         2,
     );
+}
+
+fn masks_of_words() {
     mask(
         b"mask 0 up to 64, W = 64                  | ",
         Width::W64,
@@ -107,7 +128,6 @@ pub fn run() {
         64,
         0xffff_ffff_ffff_ffff,
     );
-    show::end();
 }
 
 fn position(name: &[u8], width: Width, index: usize) {
