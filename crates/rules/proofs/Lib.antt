@@ -29,6 +29,7 @@ pub mod Room
 pub mod Widths
 pub mod Wordless
 pub mod Sentences
+pub mod Reading
 pub mod SingleBit
 pub mod OneAnswer
 pub mod OnlyOne

@@ -1,0 +1,64 @@
+-- Codes that are not 0, and numbers that leave in two's complement. Assumes nothing.
+use Prim.Native.Nat.{ℕ, zero, suc, _-_, _^_}
+use mathlib.Core.Path.{_≡_, refl}
+use mathlib.Core.Bool.{Bool, true, _||_}
+use borrow.Author.Tests.{ne-eqb}
+use Rattle.rules.specs.declared.Order.the-variants.{Msb0}
+use Rattle.rules.specs.declared.Significance.the-variants.{Be}
+use Rattle.rules.specs.declared.Sign.the-variants.{Signed}
+use Rattle.rules.specs.declared.Number.{Number}
+use Rattle.rules.specs.declared.Number.the-variants.{Up, Down}
+use Rattle.rules.specs.declared.NumberAnswer.{NumberAnswer}
+use Rattle.rules.specs.declared.NumberAnswer.the-variants.{Is}
+use Rattle.rules.specs.Fields.{bitsOf}
+use Rattle.rules.specs.Answers.{numberSays}
+use Rattle.stableply.specs.Border.{orderOf, significanceOf, signOf, numberOf, bitOf, noWidth, Told}
+
+module _ (code : ℕ) (some : code ≡ 0 → ⊥) where
+  pub second-order : Msb0 ≡ orderOf code
+  second-order = go code some
+    where
+      go : (c : ℕ) → (c ≡ 0 → ⊥) → Msb0 ≡ orderOf c
+      go zero h = absurd (h refl)
+      go (suc c) h = refl
+
+  pub second-significance : Be ≡ significanceOf code
+  second-significance = go code some
+    where
+      go : (c : ℕ) → (c ≡ 0 → ⊥) → Be ≡ significanceOf c
+      go zero h = absurd (h refl)
+      go (suc c) h = refl
+
+  pub second-sign : Signed ≡ signOf code
+  second-sign = go code some
+    where
+      go : (c : ℕ) → (c ≡ 0 → ⊥) → Signed ≡ signOf c
+      go zero h = absurd (h refl)
+      go (suc c) h = refl
+
+  pub below-zero : (value : ℕ) → Down value ≡ numberOf code value
+  below-zero value = go code some
+    where
+      go : (c : ℕ) → (c ≡ 0 → ⊥) → Down value ≡ numberOf c value
+      go zero h = absurd (h refl)
+      go (suc c) h = refl
+
+  pub one-bit : true ≡ bitOf code
+  one-bit = go code some
+    where
+      go : (c : ℕ) → (c ≡ 0 → ⊥) → true ≡ bitOf c
+      go zero h = absurd (h refl)
+      go (suc c) h = refl
+
+-- what leaves of a number
+pub leaves-up : {a : NumberAnswer} {v : Number} {n old : ℕ} → a ≡ Is v → v ≡ Up n → Told (numberSays a) old 0 n
+unfolding bitsOf
+leaves-up e d = rw (e, d) (record { number = refl; value = refl })
+
+pub leaves-down : {a : NumberAnswer} {v : Number} {n old : ℕ} → a ≡ Is v → v ≡ Down n → Told (numberSays a) old 0 (2 ^ 64 - 1 - n)
+unfolding bitsOf
+leaves-down e d = rw (e, d) (record { number = refl; value = refl })
+
+-- a width that is none
+pub no-width : (w : ℕ) (b : Bool) → (w ≡ 8 → ⊥) → (w ≡ 64 → ⊥) → (noWidth w || b) ≡ true
+no-width w b h l = rw (ne-eqb w 8 h, ne-eqb w 64 l)

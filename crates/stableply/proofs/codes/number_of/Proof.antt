@@ -1,0 +1,14 @@
+use Rattle.stableply.proofs.codes.number_of.Statement.{statement}
+use Rattle.stableply.proofs.codes.number_of.Tie as tie
+use Rattle.stableply.proofs.codes.number_of.Reads as reads
+use Rattle.stableply.proofs.codes.number_of.Lts as lts
+use Rattle.stableply.proofs.Naming.{below-zero}
+
+returns : tie.Need-returns
+returns c = rw (c .if1 .taken)
+
+returns-2 : tie.Need-returns-2
+returns-2 c = below-zero _ (c .if1 .left) _
+
+pub number-of-spec : {M : Type 1} → statement M
+number-of-spec = tie.close (tie.spec returns returns-2)

@@ -1,0 +1,15 @@
+use borrow.Author.Needs.{needs}
+use Rattle.stableply.proofs.codes.significance_of.Statement.{statement}
+use Rattle.stableply.proofs.codes.significance_of.Tie as tie
+use Rattle.stableply.proofs.codes.significance_of.Reads as reads
+use Rattle.stableply.proofs.codes.significance_of.Lts as lts
+use Rattle.stableply.proofs.Naming.{second-significance}
+
+returns : tie.Need-returns
+returns c = search needs
+
+returns-2 : tie.Need-returns-2
+returns-2 c = second-significance _ (c .if1 .left)
+
+pub significance-of-spec : {M : Type 1} → statement M
+significance-of-spec = tie.close (tie.spec returns returns-2)

@@ -1,0 +1,165 @@
+// The exported calls without lent words.
+use crate::codes::order_of;
+use crate::codes::span_of;
+use crate::leaving::leave_mask;
+use crate::leaving::leave_position;
+use crate::leaving::leave_rest;
+use crate::leaving::leave_selector;
+use rules::End;
+use rules::Index;
+use rules::Width;
+ghost use mathlib.Core.Bool.{_||_};
+ghost use Rattle.rules.specs.Bits.{bits};
+ghost use Rattle.rules.specs.Calls.{positionAnswer, selectorAnswer, maskAnswer, splitAnswer};
+ghost use Rattle.stableply.specs.Border.{orderOf, spanOf, none, noWidth, behind, Told, Rest};
+
+fn position(width: Width, order: u8, index: usize, out: &mut u64) -> u8
+    ensures { λ r. ⌜ Told (behind (none order) (positionAnswer (bits width) (orderOf order) index)) (now (out .entry)) r (now (out .exit)) ⌝ }
+{
+    if 1 < order {
+        return 255;
+    }
+    let named = order_of(order);
+    leave_position(named.at(width, Index(index)), out)
+}
+
+// The real position of an index in a word.
+#[no_mangle]
+pub extern "C" fn stableply_position(width: u8, order: u8, index: usize, out: &mut u64) -> u8
+    ensures { λ r. ⌜ Told (behind (noWidth width || none order) (positionAnswer width (orderOf order) index)) (now (out .entry)) r (now (out .exit)) ⌝ }
+{
+    if width == 8 {
+        return position(Width::W8, order, index, out);
+    }
+    if width == 64 {
+        return position(Width::W64, order, index, out);
+    }
+    255
+}
+
+fn selector(width: Width, order: u8, index: usize, out: &mut u64) -> u8
+    ensures { λ r. ⌜ Told (behind (none order) (selectorAnswer (bits width) (orderOf order) index)) (now (out .entry)) r (now (out .exit)) ⌝ }
+{
+    if 1 < order {
+        return 255;
+    }
+    let named = order_of(order);
+    leave_selector(named.select(width, Index(index)), out)
+}
+
+// The selector of an index in a word: 2 to its position.
+#[no_mangle]
+pub extern "C" fn stableply_selector(width: u8, order: u8, index: usize, out: &mut u64) -> u8
+    ensures { λ r. ⌜ Told (behind (noWidth width || none order) (selectorAnswer width (orderOf order) index)) (now (out .entry)) r (now (out .exit)) ⌝ }
+{
+    if width == 8 {
+        return selector(Width::W8, order, index, out);
+    }
+    if width == 64 {
+        return selector(Width::W64, order, index, out);
+    }
+    255
+}
+
+fn mask(width: Width, order: u8, from: usize, upto: usize, out: &mut u64) -> u8
+    ensures { λ r. ⌜ Told (behind (none order) (maskAnswer (bits width) (orderOf order) from upto)) (now (out .entry)) r (now (out .exit)) ⌝ }
+{
+    if 1 < order {
+        return 255;
+    }
+    let named = order_of(order);
+    leave_mask(named.mask(width, Index(from), End(upto)), out)
+}
+
+// The mask of the indexes from `from` up to but without `upto`.
+#[no_mangle]
+pub extern "C" fn stableply_mask(
+    width: u8,
+    order: u8,
+    from: usize,
+    upto: usize,
+    out: &mut u64,
+) -> u8
+    ensures { λ r. ⌜ Told (behind (noWidth width || none order) (maskAnswer width (orderOf order) from upto)) (now (out .entry)) r (now (out .exit)) ⌝ }
+{
+    if width == 8 {
+        return mask(Width::W8, order, from, upto, out);
+    }
+    if width == 64 {
+        return mask(Width::W64, order, from, upto, out);
+    }
+    255
+}
+
+fn split(
+    width: Width,
+    lent: usize,
+    order: u8,
+    word: usize,
+    head: usize,
+    length: usize,
+    place: usize,
+    rest_word: &mut usize,
+    rest_head: &mut usize,
+    rest_length: &mut usize,
+) -> u8
+    ensures { λ r. ⌜ Rest (behind (none order) (splitAnswer (bits width) lent (spanOf order word head length) place)) (now («rest_word» .entry)) (now («rest_head» .entry)) (now («rest_length» .entry)) r (now («rest_word» .exit)) (now («rest_head» .exit)) (now («rest_length» .exit)) ⌝ }
+{
+    if 1 < order {
+        return 255;
+    }
+    let span = span_of(order, word, head, length);
+    leave_rest(
+        span.split(width, lent, place),
+        rest_word,
+        rest_head,
+        rest_length,
+    )
+}
+
+// The rest of a span after its first `place` bits; the first half is the span shortened to `place`.
+#[no_mangle]
+pub extern "C" fn stableply_split(
+    width: u8,
+    lent: usize,
+    order: u8,
+    word: usize,
+    head: usize,
+    length: usize,
+    place: usize,
+    rest_word: &mut usize,
+    rest_head: &mut usize,
+    rest_length: &mut usize,
+) -> u8
+    ensures { λ r. ⌜ Rest (behind (noWidth width || none order) (splitAnswer width lent (spanOf order word head length) place)) (now («rest_word» .entry)) (now («rest_head» .entry)) (now («rest_length» .entry)) r (now («rest_word» .exit)) (now («rest_head» .exit)) (now («rest_length» .exit)) ⌝ }
+{
+    if width == 8 {
+        return split(
+            Width::W8,
+            lent,
+            order,
+            word,
+            head,
+            length,
+            place,
+            rest_word,
+            rest_head,
+            rest_length,
+        );
+    }
+    if width == 64 {
+        return split(
+            Width::W64,
+            lent,
+            order,
+            word,
+            head,
+            length,
+            place,
+            rest_word,
+            rest_head,
+            rest_length,
+        );
+    }
+    255
+}
