@@ -12,13 +12,16 @@ pub mod Part
 pub mod Copy
 -- fields: numbers in a row
 pub mod Field
-pub mod Pieces
+pub mod FieldByPieces
 pub mod Signed
 pub mod Bounds
 pub mod Machine
 pub mod Masks
 pub mod Chunk
 pub mod Funnel
+pub mod Cuts
+pub mod Wholes
+pub mod Pieces
 -- searches
 pub mod Search
 -- spans, refusals and document 01's sentences
@@ -31,6 +34,7 @@ pub mod Wordless
 pub mod Sentences
 pub mod Reading
 pub mod SingleBit
+pub mod FieldCalls
 pub mod OneAnswer
 pub mod OnlyOne
 -- the third demand
@@ -39,3 +43,5 @@ pub mod Footprints
 pub mod Isolation
 pub mod IsolationExample
 pub mod Tight
+-- fields, once more: sentences that need the third demand's frame
+pub mod FieldSentences

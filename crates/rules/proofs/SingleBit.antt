@@ -17,10 +17,10 @@ use Rattle.rules.specs.Answers.{writeSays, Gives}
 use lib.Bits.{bitAnd, bitOr}
 use lib.Pow.{shl-exact}
 use lib.Arith.{lt-one}
-use Rattle.rules.specs.Fields.{exponent, storeOf}
+use Rattle.rules.specs.Fields.{exponent, loadOf, storeOf}
 use Rattle.rules.proofs.Bit.{bit-cases, bit-zero}
 use Rattle.rules.proofs.Splice.{splice-eq}
-use Rattle.rules.proofs.Field.{lowest, exponent-renumbers}
+use Rattle.rules.proofs.Field.{lowest, load-one, exponent-renumbers}
 use Rattle.rules.proofs.Chunk.{masked, store-one}
 use Rattle.rules.proofs.Row.{Words, position-lt}
 use Rattle.rules.proofs.Spans.{span-bit}
@@ -96,6 +96,33 @@ module _ (W : ℕ) (ws : List ℕ) (s : Span) (i : ℕ) where
       let t = s .head .0 + i in
       let k = s .word + t / W in
       put-bit W (b .wide) (s .order) ws k (t % W) p (digit v) (b .word-in) (mod-lt t (b .wide)) words q
+      ∙ ap (λ (x : ℕ). spliced W (s .order) ws x 1 (λ _. digit v % 2)) (omega (arith, add-mul (s .word) (t / W) W, div-add-mod' t W))
+      ∙ splice-eq W (b .wide) (s .order) ws (s .word * W + s .head .0 + i) 1 (λ _. digit v % 2) (λ _. digit v) (λ i l. small v)
+    where
+      small : (v : Bool) → digit v % 2 ≡ digit v
+      small true = refl
+      small false = refl
+
+-- ---- the bit as a piece of its word
+
+module _ (W : ℕ) (ws : List ℕ) (s : Span) (i : ℕ) (e : verdict (bitCases W (length ws) s i) ≡ Fine) where
+  pub read-piece : {r : ℕ} → r ≡ loadOf W (s .order) Le ws ((s .word + (s .head .0 + i) / W) * W + (s .head .0 + i) % W) 1
+      → a-bit (digit (eqb r 1)) ≡ answer W (readBit s i) ws
+  read-piece q =
+      let b = fine-bit W (length ws) s i e in
+      let t = s .head .0 + i in
+      let k = s .word + t / W in
+      ap (λ (x : ℕ). a-bit (digit (eqb x 1)))
+      (q ∙ load-one W (b .wide) k (t % W) 1 (omega (arith, mod-lt t (b .wide))) (s .order) Le ws ∙ ap (λ (p : ℕ). getD ws k 0 / 2 ^ p % 2) (lowest-one W (s .order) (t % W)))
+      ∙ read-done W ws s i (position W (s .order) (t % W)) e refl
+
+  pub write-piece : (v : Bool) {m : List ℕ} → m ≡ storeOf W (s .order) Le ws ((s .word + (s .head .0 + i) / W) * W + (s .head .0 + i) % W) 1 (digit v)
+      → m ≡ spliced W (s .order) ws (start W s + i) 1 (λ _. digit v)
+  unfolding start
+  write-piece v q =
+      let b = fine-bit W (length ws) s i e in
+      let t = s .head .0 + i in
+      q ∙ store-bit W (b .wide) (s .order) ws ((s .word + t / W) * W + t % W) (digit v)
       ∙ ap (λ (x : ℕ). spliced W (s .order) ws x 1 (λ _. digit v % 2)) (omega (arith, add-mul (s .word) (t / W) W, div-add-mod' t W))
       ∙ splice-eq W (b .wide) (s .order) ws (s .word * W + s .head .0 + i) 1 (λ _. digit v % 2) (λ _. digit v) (λ i l. small v)
     where

@@ -1,8 +1,8 @@
 -- Codes that are not 0, and numbers that leave in two's complement. Assumes nothing.
-use Prim.Native.Nat.{ℕ, zero, suc, _-_, _^_}
+use Prim.Native.Nat.{ℕ, zero, suc, _-_, _^_, _≤_, _<_}
 use mathlib.Core.Path.{_≡_, refl}
-use mathlib.Core.Bool.{Bool, true, _||_}
-use borrow.Author.Tests.{ne-eqb}
+use mathlib.Core.Bool.{Bool, true, false, _||_}
+use borrow.Author.Tests.{ne-eqb, lt-ltb, le-ltb}
 use Rattle.rules.specs.declared.Order.the-variants.{Msb0}
 use Rattle.rules.specs.declared.Significance.the-variants.{Be}
 use Rattle.rules.specs.declared.Sign.the-variants.{Signed}
@@ -12,7 +12,7 @@ use Rattle.rules.specs.declared.NumberAnswer.{NumberAnswer}
 use Rattle.rules.specs.declared.NumberAnswer.the-variants.{Is}
 use Rattle.rules.specs.Fields.{bitsOf}
 use Rattle.rules.specs.Answers.{numberSays}
-use Rattle.stableply.specs.Border.{orderOf, significanceOf, signOf, numberOf, bitOf, noWidth, Told}
+use Rattle.stableply.specs.Border.{orderOf, significanceOf, signOf, numberOf, bitOf, noWidth, none, Told}
 
 module _ (code : ℕ) (some : code ≡ 0 → ⊥) where
   pub second-order : Msb0 ≡ orderOf code
@@ -62,3 +62,13 @@ leaves-down e d = rw (e, d) (record { number = refl; value = refl })
 -- a width that is none
 pub no-width : (w : ℕ) (b : Bool) → (w ≡ 8 → ⊥) → (w ≡ 64 → ⊥) → (noWidth w || b) ≡ true
 no-width w b h l = rw (ne-eqb w 8 h, ne-eqb w 64 l)
+
+-- of several codes one is none, or none is
+pub first-none : (x : ℕ) (b : Bool) → 1 < x → (none x || b) ≡ true
+first-none x b h = rw (lt-ltb 1 x h)
+
+pub later-none : (x : ℕ) (b : Bool) → x ≤ 1 → b ≡ true → (none x || b) ≡ true
+later-none x b h e = rw (le-ltb 1 x h) e
+
+pub all-named : (x : ℕ) (b : Bool) → x ≤ 1 → b ≡ false → (none x || b) ≡ false
+all-named x b h e = rw (le-ltb 1 x h) e

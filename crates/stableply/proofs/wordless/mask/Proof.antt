@@ -26,7 +26,7 @@ leave-mask-requires : tie.Need-leave-mask-requires
 leave-mask-requires c κs = search needs
 
 returns-2 : tie.Need-returns-2
-returns-2 c = 
+returns-2 c =
     let a = c .before .before .before .before .before .args in
     told _ (le-ltb _ _ (c .before .before .before .before .if1 .left)) (c .before .before .mask .ensures ∙ ap (λ (o : Order). maskAnswer (bits (a .width)) o (a .from) (a .upto)) (c .before .before .before .order-of .ensures)) (c .leave-mask .ensures)
 

@@ -26,7 +26,7 @@ leave-position-requires : tie.Need-leave-position-requires
 leave-position-requires c κs = search needs
 
 returns-2 : tie.Need-returns-2
-returns-2 c = 
+returns-2 c =
     let a = c .before .before .before .before .before .args in
     told _ (le-ltb _ _ (c .before .before .before .before .if1 .left)) (c .before .before .at .ensures ∙ ap (λ (o : Order). positionAnswer (bits (a .width)) o (a .index)) (c .before .before .before .order-of .ensures)) (c .leave-position .ensures)
 

@@ -26,7 +26,7 @@ leave-selector-requires : tie.Need-leave-selector-requires
 leave-selector-requires c κs = search needs
 
 returns-2 : tie.Need-returns-2
-returns-2 c = 
+returns-2 c =
     let a = c .before .before .before .before .before .args in
     told _ (le-ltb _ _ (c .before .before .before .before .if1 .left)) (c .before .before .select .ensures ∙ ap (λ (o : Order). selectorAnswer (bits (a .width)) o (a .index)) (c .before .before .before .order-of .ensures)) (c .leave-selector .ensures)
 

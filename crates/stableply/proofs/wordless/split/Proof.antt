@@ -26,7 +26,7 @@ leave-rest-requires : tie.Need-leave-rest-requires
 leave-rest-requires c κs = search needs
 
 returns-2 : tie.Need-returns-2
-returns-2 c = 
+returns-2 c =
     let a = c .before .before .before .before .before .before .before .args in
     rest _ (le-ltb _ _ (c .before .before .before .before .before .before .if1 .left)) (c .before .before .before .before .split .ensures ∙ ap (λ (s : Span). splitAnswer (bits (a .width)) (a .lent) s (a .place)) (c .before .before .before .before .before .span-of .ensures)) (c .leave-rest .ensures)
 

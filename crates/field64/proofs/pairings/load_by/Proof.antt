@@ -1,0 +1,65 @@
+-- `load_by`: in each arm the order and the significance are its constants. Assumes nothing.
+use borrow.Author.Needs.{needs}
+use Rattle.field64.proofs.pairings.load_by.Statement.{statement}
+use Rattle.field64.proofs.pairings.load_by.Tie as tie
+
+enum-told : tie.Need-enum-told
+enum-told c = search needs
+
+enum-told-2 : tie.Need-enum-told-2
+enum-told-2 c = search needs
+
+load-bits-requires : tie.Need-load-bits-requires
+load-bits-requires c κs = search needs
+
+enum-told-3 : tie.Need-enum-told-3
+enum-told-3 c = search needs
+
+load-bits-requires-2 : tie.Need-load-bits-requires-2
+load-bits-requires-2 c κs = search needs
+
+enum-told-4 : tie.Need-enum-told-4
+enum-told-4 c = search needs
+
+enum-told-5 : tie.Need-enum-told-5
+enum-told-5 c = search needs
+
+load-bits-requires-3 : tie.Need-load-bits-requires-3
+load-bits-requires-3 c κs = search needs
+
+enum-told-6 : tie.Need-enum-told-6
+enum-told-6 c = search needs
+
+load-bits-requires-4 : tie.Need-load-bits-requires-4
+load-bits-requires-4 c κs = search needs
+
+returns : tie.Need-returns
+returns c = rw (c .before .before .before .enum-told .given .1, c .before .enum-told2 .given .1) (c .load-bits .ensures)
+
+returns-2 : tie.Need-returns-2
+returns-2 c = rw (c .before .before .before .enum-told .given .1, c .before .enum-told3 .given .1) (c .load-bits2 .ensures)
+
+returns-3 : tie.Need-returns-3
+returns-3 c = rw (c .before .before .before .enum-told4 .given .1, c .before .enum-told5 .given .1) (c .load-bits3 .ensures)
+
+returns-4 : tie.Need-returns-4
+returns-4 c = rw (c .before .before .before .enum-told4 .given .1, c .before .enum-told6 .given .1) (c .load-bits4 .ensures)
+
+pub load-by-spec : {M : Type 1} → statement M
+load-by-spec =
+    tie.close
+    (tie.spec
+    enum-told
+    enum-told-2
+    load-bits-requires
+    enum-told-3
+    load-bits-requires-2
+    enum-told-4
+    enum-told-5
+    load-bits-requires-3
+    enum-told-6
+    load-bits-requires-4
+    returns
+    returns-2
+    returns-3
+    returns-4)

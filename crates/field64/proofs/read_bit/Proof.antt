@@ -1,0 +1,59 @@
+-- `read_bit`: the bit is a piece of one bit of its word. Assumes nothing.
+use borrow.Author.Needs.{needs}
+use native.Mathlib.Omega.{arith}
+use native.Mathlib.Nat.{mod-lt}
+use mathlib.Core.Path.{_≡_, refl, sym, ap, _∙_}
+use Prim.Native.Nat.{ℕ, _+_, _*_, _/_, _%_}
+use lib.Dec.{lit<}
+use lib.ListN.{length}
+use denote.Ref.{now}
+use Rattle.rules.specs.declared.Significance.the-variants.{Le}
+use Rattle.rules.specs.declared.Verdict.the-variants.{Fine}
+use Rattle.rules.specs.Refusals.{verdict, bitCases}
+use Rattle.rules.proofs.Accepted.{Bit, fine-bit}
+use Rattle.rules.proofs.SingleBit.{read-refused, read-piece}
+use Rattle.field64.proofs.read_bit.Statement.{statement}
+use Rattle.field64.proofs.read_bit.Tie as tie
+
+fine : (c : tie.After-enum-told) → (let a = c .before .before .before .before .args in verdict (bitCases 64 (length (now (a .words))) (a .span) (a .index)) ≡ Fine)
+fine c = sym (c .before .before .check-bit .ensures) ∙ c .enum-told .given .1
+
+held : (c : tie.After-enum-told) → (let a = c .before .before .before .before .args in Bit 64 (length (now (a .words))) (a .span) (a .index))
+held c = fine-bit 64 _ _ _ (fine c)
+
+check-bit-requires : tie.Need-check-bit-requires
+check-bit-requires c κs = search needs
+
+enum-known-verdict : tie.Need-enum-known-verdict
+enum-known-verdict c = search needs
+
+enum-told : tie.Need-enum-told
+enum-told c = search needs
+
+add-t : tie.Need-add-t
+add-t c = let h = held (c .before) in let i = h .lies in omega arith
+
+add-word : tie.Need-add-word
+add-word c = let h = held (c .before .before) in let i = h .lies in omega arith
+
+piece-at-requires : tie.Need-piece-at-requires
+piece-at-requires c κs = let h = held (c .before .before) in (omega arith, omega arith, h .word-in)
+
+returns : tie.Need-returns
+returns c = read-refused 64 _ _ _ _ (sym (c .before .before .before .check-bit .ensures) ∙ c .before .verdict .given .1)
+
+returns-2 : tie.Need-returns-2
+returns-2 c = read-piece 64 _ _ _ (fine (c .before .before .before)) (c .piece-at .ensures .0 Le)
+
+pub read-bit-spec : {M : Type 1} → statement M
+read-bit-spec =
+    tie.close
+    (tie.spec
+    check-bit-requires
+    enum-known-verdict
+    enum-told
+    add-t
+    add-word
+    piece-at-requires
+    returns
+    returns-2)

@@ -1,0 +1,90 @@
+// The four pairings of order and significance, each with its own constants.
+use crate::bits::load_bits;
+use crate::bits::store_bits;
+use rules::Order;
+use rules::Significance;
+ghost use mathlib.Core.Path.{_≡_};
+ghost use Prim.Native.Nat.{_+_, _*_, _^_, _<_, _≤_};
+ghost use lib.ListN.{length};
+ghost use Rattle.rules.specs.Fields.{loadOf, storeOf};
+
+// A load by its pairing.
+pub fn load_by(
+    words: &[u64],
+    order: Order,
+    significance: Significance,
+    word: usize,
+    head: usize,
+    len: usize,
+) -> u64
+    requires { ⌜ (head < 64) × (1 ≤ len) × (len ≤ 64) × (word * 64 + head + len ≤ length (now words) * 64) ⌝ }
+    ensures { λ r. ⌜ (r ≡ loadOf 64 order significance (now (words .entry)) (word * 64 + head) len) × (r < 2 ^ len) ⌝ }
+{
+    match order {
+        Order::Lsb0 => match significance {
+            Significance::Le => load_bits(words, Order::Lsb0, Significance::Le, word, head, len),
+            Significance::Be => load_bits(words, Order::Lsb0, Significance::Be, word, head, len),
+        },
+        Order::Msb0 => match significance {
+            Significance::Le => load_bits(words, Order::Msb0, Significance::Le, word, head, len),
+            Significance::Be => load_bits(words, Order::Msb0, Significance::Be, word, head, len),
+        },
+    }
+}
+
+// A store by its pairing.
+pub fn store_by(
+    words: &mut [u64],
+    order: Order,
+    significance: Significance,
+    word: usize,
+    head: usize,
+    len: usize,
+    v: u64,
+)
+    requires { ⌜ (head < 64) × (1 ≤ len) × (len ≤ 64) × (word * 64 + head + len ≤ length (now words) * 64) ⌝ }
+    ensures { λ _. ⌜ now (words .exit) ≡ storeOf 64 order significance (now (words .entry)) (word * 64 + head) len v ⌝ }
+{
+    match order {
+        Order::Lsb0 => match significance {
+            Significance::Le => store_bits(
+                words,
+                Order::Lsb0,
+                Significance::Le,
+                word,
+                head,
+                len,
+                v,
+            ),
+            Significance::Be => store_bits(
+                words,
+                Order::Lsb0,
+                Significance::Be,
+                word,
+                head,
+                len,
+                v,
+            ),
+        },
+        Order::Msb0 => match significance {
+            Significance::Le => store_bits(
+                words,
+                Order::Msb0,
+                Significance::Le,
+                word,
+                head,
+                len,
+                v,
+            ),
+            Significance::Be => store_bits(
+                words,
+                Order::Msb0,
+                Significance::Be,
+                word,
+                head,
+                len,
+                v,
+            ),
+        },
+    }
+}

@@ -1,0 +1,105 @@
+// Fields as numbers, for callers that have seen that the span is in bounds: a first piece, whole words, a last piece.
+use crate::parts::load_middle;
+use crate::parts::piece_at;
+use crate::parts::put_piece;
+use crate::parts::store_middle;
+use pieces::Cut;
+use rules::Order;
+use rules::Significance;
+ghost use mathlib.Core.Path.{_≡_};
+ghost use Prim.Native.Nat.{_+_, _*_, _^_, _<_, _≤_};
+ghost use lib.ListN.{length};
+ghost use Rattle.rules.specs.Fields.{loadOf, storeOf};
+
+// The number that `whole` words from word `start` on are with `last` bits of the word after them.
+fn load_rest(
+    words: &[u8],
+    order: Order,
+    significance: Significance,
+    start: usize,
+    whole: usize,
+    last: usize,
+) -> u64
+    requires { ⌜ (last < 8) × (whole * 8 + last ≤ 63) × (start * 8 + (whole * 8 + last) ≤ length (now words) * 8) ⌝ }
+    ensures { λ r. ⌜ (r ≡ loadOf 8 order significance (now (words .entry)) (start * 8) (whole * 8 + last)) × (r < 2 ^ (whole * 8 + last)) ⌝ }
+{
+    let a = load_middle(words, significance, start, whole);
+    if last == 0 {
+        return a;
+    }
+    let b = piece_at(words, order, start + whole, 0, last);
+    pieces::join(significance, a, whole * 8, b, last)
+}
+
+// The number that the bits of a field are, from index `head` of a word on.
+pub fn load_bits(
+    words: &[u8],
+    order: Order,
+    significance: Significance,
+    word: usize,
+    head: usize,
+    len: usize,
+) -> u64
+    requires { ⌜ (head < 8) × (1 ≤ len) × (len ≤ 64) × (word * 8 + head + len ≤ length (now words) * 8) ⌝ }
+    ensures { λ r. ⌜ (r ≡ loadOf 8 order significance (now (words .entry)) (word * 8 + head) len) × (r < 2 ^ len) ⌝ }
+{
+    let cut = Cut::of(8, head, len);
+    let first = cut.first;
+    let whole = cut.whole;
+    let last = cut.last;
+    let a = piece_at(words, order, word, head, first);
+    if first == len {
+        return a;
+    }
+    let b = load_rest(words, order, significance, word + 1, whole, last);
+    pieces::join(significance, a, first, b, len - first)
+}
+
+// The low bits of a number, placed in `whole` words from word `start` on and `last` bits of the word after them.
+fn store_rest(
+    words: &mut [u8],
+    order: Order,
+    significance: Significance,
+    start: usize,
+    whole: usize,
+    last: usize,
+    v: u64,
+)
+    requires { ⌜ (last < 8) × (whole * 8 + last ≤ 63) × (start * 8 + (whole * 8 + last) ≤ length (now words) * 8) ⌝ }
+    ensures { λ _. ⌜ now (words .exit) ≡ storeOf 8 order significance (now (words .entry)) (start * 8) (whole * 8 + last) v ⌝ }
+{
+    let a = pieces::first_of(significance, v, last);
+    store_middle(words, significance, start, whole, a);
+    if last == 0 {
+        return;
+    }
+    let b = pieces::rest_of(significance, v, whole * 8);
+    put_piece(words, order, start + whole, 0, last, b);
+}
+
+// The low bits of a number, placed so that a load returns them. All other bits stay.
+pub fn store_bits(
+    words: &mut [u8],
+    order: Order,
+    significance: Significance,
+    word: usize,
+    head: usize,
+    len: usize,
+    v: u64,
+)
+    requires { ⌜ (head < 8) × (1 ≤ len) × (len ≤ 64) × (word * 8 + head + len ≤ length (now words) * 8) ⌝ }
+    ensures { λ _. ⌜ now (words .exit) ≡ storeOf 8 order significance (now (words .entry)) (word * 8 + head) len v ⌝ }
+{
+    let cut = Cut::of(8, head, len);
+    let first = cut.first;
+    let whole = cut.whole;
+    let last = cut.last;
+    if first == len {
+        put_piece(words, order, word, head, first, v);
+        return;
+    }
+    let a = pieces::first_of(significance, v, len - first);
+    put_piece(words, order, word, head, first, a);
+    let b = pieces::rest_of(significance, v, first);
+    store_rest(words, order, significance, word + 1, whole, last, b);
+}

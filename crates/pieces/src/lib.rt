@@ -1,0 +1,110 @@
+// What the calls on single bits and fields share at every width: the pieces of a field as numbers, and the refusals before any word is read.
+mod refusals;
+
+pub use refusals::check_bit;
+pub use refusals::check_load;
+pub use refusals::check_store;
+pub use refusals::check_strict;
+use rules::Order;
+use rules::Significance;
+ghost use mathlib.Core.Path.{_≡_};
+ghost use Prim.Native.Nat.{_+_, _-_, _*_, _<_, _≤_, _^_};
+ghost use Rattle.rules.proofs.Field.{lowest};
+ghost use Rattle.rules.proofs.Chunk.{masked};
+ghost use Rattle.rules.proofs.Cuts.{Cuts, pieceOf, joined, firstOf, restOf};
+
+// A run of bits cut where words end: how many bits of the first word, how many whole words after it, how many bits of the last word. The
+// first piece is never empty; it ends with its word unless it is all.
+pub struct Cut {
+    pub first: usize,
+    pub whole: usize,
+    pub last: usize,
+}
+
+impl Cut {
+    // The cut of `len` bits from index `head` of a word of `width` bits on.
+    pub fn of(width: usize, head: usize, len: usize) -> Cut
+        requires { ⌜ (head < width) × (1 ≤ len) ⌝ }
+        ensures { λ r. ⌜ Cuts width head len (r .first) (r .whole) (r .last) ⌝ }
+    {
+        let room = width - head;
+        if len <= room {
+            return Cut {
+                first: len,
+                whole: 0,
+                last: 0,
+            };
+        }
+        let rest = len - room;
+        Cut {
+            first: room,
+            whole: rest / width,
+            last: rest % width,
+        }
+    }
+}
+
+// The lowest position of the n bits of a word from index h on.
+pub fn lowest_of(width: usize, order: Order, h: usize, n: usize) -> usize
+    requires { ⌜ (1 ≤ n) × (h + n ≤ width) ⌝ }
+    ensures { λ r. ⌜ (r ≡ lowest width order h n) × (r + n ≤ width) ⌝ }
+{
+    match order {
+        Order::Lsb0 => h,
+        Order::Msb0 => width - h - n,
+    }
+}
+
+// The n bits of the word x from index h on, as a number.
+pub fn piece(width: usize, x: u64, order: Order, h: usize, n: usize) -> u64
+    requires { ⌜ (1 ≤ n) × (h + n ≤ width) × (width ≤ 64) ⌝ }
+    ensures { λ r. ⌜ (r ≡ pieceOf width x order h n) × (r < 2 ^ n) ⌝ }
+{
+    let p = lowest_of(width, order, h, n);
+    (x << (64 - p - n)) >> (64 - n)
+}
+
+// The word x with the low n bits of v in place of its n bits from index h on.
+pub fn with_piece(width: usize, x: u64, order: Order, h: usize, n: usize, v: u64) -> u64
+    requires { ⌜ (1 ≤ n) × (h + n ≤ width) × (width ≤ 64) × (x < 2 ^ width) ⌝ }
+    ensures { λ r. ⌜ (r ≡ masked width x (lowest width order h n) n v) × (r < 2 ^ width) ⌝ }
+{
+    let p = lowest_of(width, order, h, n);
+    let low = rules::low_ones(n);
+    let mask = low << p;
+    let all = rules::low_ones(width);
+    (x & (all - mask)) | (v & low) << p
+}
+
+// The number whose first part is the k bits a, and whose rest is the n bits b.
+pub fn join(significance: Significance, a: u64, k: usize, b: u64, n: usize) -> u64
+    requires { ⌜ (k < 64) × (n < 64) × (k + n ≤ 64) × (a < 2 ^ k) × (b < 2 ^ n) ⌝ }
+    ensures { λ r. ⌜ r ≡ joined significance a k b n ⌝ }
+{
+    match significance {
+        Significance::Le => b << k | a,
+        Significance::Be => a << n | b,
+    }
+}
+
+// What is to be stored in a first part that n bits follow.
+pub fn first_of(significance: Significance, v: u64, n: usize) -> u64
+    requires { ⌜ n < 64 ⌝ }
+    ensures { λ r. ⌜ r ≡ firstOf significance v n ⌝ }
+{
+    match significance {
+        Significance::Le => v,
+        Significance::Be => v >> n,
+    }
+}
+
+// What is to be stored in a rest that k bits precede.
+pub fn rest_of(significance: Significance, v: u64, k: usize) -> u64
+    requires { ⌜ k < 64 ⌝ }
+    ensures { λ r. ⌜ r ≡ restOf significance v k ⌝ }
+{
+    match significance {
+        Significance::Le => v >> k,
+        Significance::Be => v,
+    }
+}

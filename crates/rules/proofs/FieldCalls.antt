@@ -1,0 +1,53 @@
+-- The calls on fields: their tables joined from those of code, and their answers and memory from what code reads and writes. Assumes nothing.
+use mathlib.Core.Path.{_≡_, refl, sym, ap, _∙_}
+use mathlib.Core.List.{List}
+use Prim.Native.Nat.{ℕ, _+_, _*_, _^_, _≤_, _<_}
+use lib.ListN.{length}
+use lib.IntN.{ℤ}
+use Rattle.rules.specs.Types.{Span, Significance, Sign, Number, Refusal, Verdict, Fine, Refused, NumberAnswer, Number·Is, Number·Refused, WriteAnswer, Done, Write·Refused}
+use Rattle.rules.specs.Positions.{start}
+use Rattle.rules.specs.Fields.{loadOf, storeOf, readAs, whole, bitsOf}
+use Rattle.rules.specs.Refusals.{number, verdict, spanCases, fieldCases, valueCases, fittingCases, loadCases, storeCases, strictCases}
+use Rattle.rules.specs.Calls.{load, store, strictStore, cases, answer!, after!, answer, after, a-number}
+use Rattle.rules.specs.Answers.{numberSays, writeSays, Gives}
+use Rattle.rules.proofs.Tables.{stops, goes}
+use Rattle.rules.proofs.Sentences.{refused-call, accepted-call}
+
+-- ---- load
+
+module _ (W : ℕ) (ws : List ℕ) (s : Span) (K : ℕ) (e : Significance) (g : Sign) where
+  pub load-refused : {r : Refusal} → verdict (loadCases W (length ws) s K) ≡ Refused r → numberSays (Number·Refused r) ≡ answer W (load s K e g) ws
+  unfolding cases
+  load-refused {r} h = sym (refused-call W (load s K e g) ws r h .0)
+
+  pub load-done : verdict (loadCases W (length ws) s K) ≡ Fine → (v : Number) {u : ℕ} → whole v ≡ readAs g (s .len) u
+      → u ≡ loadOf W (s .order) e ws (start W s) (s .len) → numberSays (Number·Is v) ≡ answer W (load s K e g) ws
+  unfolding cases answer!
+  load-done h v p q = ap a-number (p ∙ ap (readAs g (s .len)) q) ∙ sym (accepted-call W (load s K e g) ws h .0)
+
+-- ---- store and strict store
+
+module _ (W : ℕ) (ws : List ℕ) (s : Span) (K : ℕ) (e : Significance) (g : Sign) (v : ℤ) where
+  pub store-refused : {r : Refusal} {m : List ℕ} → verdict (storeCases W (length ws) s K g v) ≡ Refused r → m ≡ ws
+      → Gives (answer W (store s K e g v) ws) (after W (store s K e g v) ws) (writeSays (Write·Refused r)) m
+  unfolding cases
+  store-refused {r} h q = let c = refused-call W (store s K e g v) ws r h in record { answers = sym (c .0); holds = q ∙ sym (c .1) }
+
+  pub store-done : verdict (storeCases W (length ws) s K g v) ≡ Fine → {m : List ℕ} {b : ℕ} → b ≡ bitsOf K v
+      → m ≡ storeOf W (s .order) e ws (start W s) (s .len) b → Gives (answer W (store s K e g v) ws) (after W (store s K e g v) ws) (writeSays Done) m
+  unfolding cases answer! after!
+  store-done h p q =
+      let c = accepted-call W (store s K e g v) ws h in
+      record { answers = sym (c .0); holds = q ∙ ap (storeOf W (s .order) e ws (start W s) (s .len)) p ∙ sym (c .1) }
+
+  pub strict-refused : {r : Refusal} {m : List ℕ} → verdict (strictCases W (length ws) s K g v) ≡ Refused r → m ≡ ws
+      → Gives (answer W (strictStore s K e g v) ws) (after W (strictStore s K e g v) ws) (writeSays (Write·Refused r)) m
+  unfolding cases
+  strict-refused {r} h q = let c = refused-call W (strictStore s K e g v) ws r h in record { answers = sym (c .0); holds = q ∙ sym (c .1) }
+
+  pub strict-done : verdict (strictCases W (length ws) s K g v) ≡ Fine → {m : List ℕ} {b : ℕ} → b ≡ bitsOf K v
+      → m ≡ storeOf W (s .order) e ws (start W s) (s .len) b → Gives (answer W (strictStore s K e g v) ws) (after W (strictStore s K e g v) ws) (writeSays Done) m
+  unfolding cases answer! after!
+  strict-done h p q =
+      let c = accepted-call W (strictStore s K e g v) ws h in
+      record { answers = sym (c .0); holds = q ∙ ap (storeOf W (s .order) e ws (start W s) (s .len)) p ∙ sym (c .1) }

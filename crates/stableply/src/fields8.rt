@@ -1,0 +1,157 @@
+// The exported calls on single bits and fields of rows of bytes.
+use crate::codes::bit_of;
+use crate::codes::number_of;
+use crate::codes::sign_of;
+use crate::codes::significance_of;
+use crate::codes::span_of;
+use crate::leaving::leave_bit;
+use crate::leaving::leave_number;
+use crate::leaving::leave_write;
+ghost use mathlib.Core.Bool.{_||_};
+ghost use Rattle.rules.specs.Fields.{whole};
+ghost use Rattle.rules.specs.Calls.{readBit, writeBit, load, store, strictStore, answer, after};
+ghost use Rattle.stableply.specs.Border.{spanOf, bitOf, significanceOf, signOf, numberOf, none, behind, Told, Wrote};
+
+// One bit of a span, as 0 or 1.
+#[no_mangle]
+pub extern "C" fn stableply8_read_bit(
+    words: &[u8],
+    order: u8,
+    word: usize,
+    head: usize,
+    length: usize,
+    index: usize,
+    out: &mut u8,
+) -> u8
+    ensures { λ r. ⌜ Told (behind (none order) (answer 8 (readBit (spanOf order word head length) index) (now (words .entry)))) (now (out .entry)) r (now (out .exit)) ⌝ }
+{
+    if 1 < order {
+        return 255;
+    }
+    let span = span_of(order, word, head, length);
+    leave_bit(field8::read_bit(words, span, index), out)
+}
+
+// Sets one bit of a span to 0 or 1.
+#[no_mangle]
+pub extern "C" fn stableply8_write_bit(
+    words: &mut [u8],
+    order: u8,
+    word: usize,
+    head: usize,
+    length: usize,
+    index: usize,
+    bit: u8,
+) -> u8
+    ensures { λ r. ⌜ Wrote (none order || none bit) (answer 8 (writeBit (spanOf order word head length) index (bitOf bit)) (now (words .entry))) (after 8 (writeBit (spanOf order word head length) index (bitOf bit)) (now (words .entry))) (now (words .entry)) r (now (words .exit)) ⌝ }
+{
+    if 1 < order {
+        return 255;
+    }
+    if 1 < bit {
+        return 255;
+    }
+    let span = span_of(order, word, head, length);
+    let named = bit_of(bit);
+    leave_write(field8::write_bit(words, span, index, named))
+}
+
+// The number that a field holds; a signed one in two's complement.
+#[no_mangle]
+pub extern "C" fn stableply8_load(
+    words: &[u8],
+    order: u8,
+    word: usize,
+    head: usize,
+    length: usize,
+    k: usize,
+    significance: u8,
+    sign: u8,
+    out: &mut u64,
+) -> u8
+    ensures { λ r. ⌜ Told (behind (none order || (none significance || none sign)) (answer 8 (load (spanOf order word head length) k (significanceOf significance) (signOf sign)) (now (words .entry)))) (now (out .entry)) r (now (out .exit)) ⌝ }
+{
+    if 1 < order {
+        return 255;
+    }
+    if 1 < significance {
+        return 255;
+    }
+    if 1 < sign {
+        return 255;
+    }
+    let span = span_of(order, word, head, length);
+    let weight = significance_of(significance);
+    let named = sign_of(sign);
+    leave_number(field8::load(words, span, k, weight, named), out)
+}
+
+// Places the low bits of a value in a field.
+#[no_mangle]
+pub extern "C" fn stableply8_store(
+    words: &mut [u8],
+    order: u8,
+    word: usize,
+    head: usize,
+    length: usize,
+    k: usize,
+    significance: u8,
+    sign: u8,
+    below: u8,
+    value: u64,
+) -> u8
+    ensures { λ r. ⌜ Wrote (none order || (none significance || (none sign || none below))) (answer 8 (store (spanOf order word head length) k (significanceOf significance) (signOf sign) (whole (numberOf below value))) (now (words .entry))) (after 8 (store (spanOf order word head length) k (significanceOf significance) (signOf sign) (whole (numberOf below value))) (now (words .entry))) (now (words .entry)) r (now (words .exit)) ⌝ }
+{
+    if 1 < order {
+        return 255;
+    }
+    if 1 < significance {
+        return 255;
+    }
+    if 1 < sign {
+        return 255;
+    }
+    if 1 < below {
+        return 255;
+    }
+    let span = span_of(order, word, head, length);
+    let weight = significance_of(significance);
+    let named = sign_of(sign);
+    let number = number_of(below, value);
+    leave_write(field8::store(words, span, k, weight, named, number))
+}
+
+// The same, but only for a value that fits.
+#[no_mangle]
+pub extern "C" fn stableply8_store_strict(
+    words: &mut [u8],
+    order: u8,
+    word: usize,
+    head: usize,
+    length: usize,
+    k: usize,
+    significance: u8,
+    sign: u8,
+    below: u8,
+    value: u64,
+) -> u8
+    ensures { λ r. ⌜ Wrote (none order || (none significance || (none sign || none below))) (answer 8 (strictStore (spanOf order word head length) k (significanceOf significance) (signOf sign) (whole (numberOf below value))) (now (words .entry))) (after 8 (strictStore (spanOf order word head length) k (significanceOf significance) (signOf sign) (whole (numberOf below value))) (now (words .entry))) (now (words .entry)) r (now (words .exit)) ⌝ }
+{
+    if 1 < order {
+        return 255;
+    }
+    if 1 < significance {
+        return 255;
+    }
+    if 1 < sign {
+        return 255;
+    }
+    if 1 < below {
+        return 255;
+    }
+    let span = span_of(order, word, head, length);
+    let weight = significance_of(significance);
+    let named = sign_of(sign);
+    let number = number_of(below, value);
+    leave_write(field8::store_strict(words, span, k, weight, named, number))
+}
