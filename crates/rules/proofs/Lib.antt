@@ -24,6 +24,10 @@ pub mod Wholes
 pub mod Pieces
 -- searches
 pub mod Search
+pub mod MaskBits
+pub mod WordSearch
+pub mod Alike
+pub mod RowSearch
 -- spans, refusals and document 01's sentences
 pub mod Spans
 pub mod Tables
@@ -35,6 +39,8 @@ pub mod Sentences
 pub mod Reading
 pub mod SingleBit
 pub mod FieldCalls
+pub mod SearchAnswers
+pub mod SearchSentences
 pub mod OneAnswer
 pub mod OnlyOne
 -- the third demand

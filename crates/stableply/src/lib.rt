@@ -4,4 +4,6 @@ mod codes;
 mod fields64;
 mod fields8;
 mod leaving;
+mod searches64;
+mod searches8;
 mod wordless;

@@ -1,0 +1,64 @@
+// The leaves, which know the word's type: the bits sought in a word, and blocks of words that have none.
+use rules::Order;
+use word8::flip;
+use word8::mask;
+ghost use mathlib.Core.Path.{_≡_};
+ghost use Prim.Native.Nat.{_+_, _-_, _*_, _≤_};
+ghost use lib.ListN.{length, getD};
+ghost use Rattle.rules.proofs.WordSearch.{masked};
+ghost use Rattle.rules.proofs.Alike.{Alike, Gathered};
+
+// The bits sought among the n from index h of word k on, as the ones of a word.
+pub fn sought_in(words: &[u8], order: Order, sought: bool, k: usize, h: usize, n: usize) -> u8
+    requires { ⌜ (1 ≤ n) × (h + n ≤ 8) × (k * 8 + h + n ≤ length (now words) * 8) ⌝ }
+    ensures { λ r. ⌜ r ≡ masked 8 order sought (getD (now (words .entry)) k 0) h n ⌝ }
+{
+    let f = flip(sought);
+    let m = mask(order, h, n);
+    (words[k] ^ f) & m
+}
+
+// Zero exactly if each word is f.
+fn gather(words: &[u8], f: u8) -> u8
+    ensures { λ r. ⌜ Gathered f (now (words .entry)) (length (now (words .entry))) r ⌝ }
+{
+    let mut v: u8 = 0;
+    let mut i: usize = 0;
+    while i < words.len() {
+        v = v | (words[i] ^ f);
+        i = i + 1;
+    }
+    v
+}
+
+// Up from a past blocks of f, to a block that is not or to less than a block.
+pub fn pass_up(words: &[u8], a: usize, e: usize, f: u8, size: usize) -> usize
+    requires { ⌜ (a ≤ e) × (e ≤ length (now words)) × (1 ≤ size) ⌝ }
+    ensures { λ r. ⌜ (a ≤ r) × (r ≤ e) × Alike f (now (words .entry)) a r × (r + size ≤ e → Alike f (now (words .entry)) r (r + size) → ⊥) ⌝ }
+{
+    let mut i: usize = a;
+    while size <= e - i {
+        let j = i + size;
+        if gather(&words[i..j], f) != 0 {
+            return i;
+        }
+        i = j;
+    }
+    i
+}
+
+// Down from e past blocks of f, to a block that is not or to less than a block.
+pub fn pass_down(words: &[u8], a: usize, e: usize, f: u8, size: usize) -> usize
+    requires { ⌜ (a ≤ e) × (e ≤ length (now words)) × (1 ≤ size) ⌝ }
+    ensures { λ r. ⌜ (a ≤ r) × (r ≤ e) × Alike f (now (words .entry)) r e × (a + size ≤ r → Alike f (now (words .entry)) (r - size) r → ⊥) ⌝ }
+{
+    let mut i: usize = e;
+    while size <= i - a {
+        let j = i - size;
+        if gather(&words[j..i], f) != 0 {
+            return i;
+        }
+        i = j;
+    }
+    i
+}
