@@ -1,5 +1,7 @@
 // Single bits and fields of words of 64 bits. Every call takes any arguments; its promise is document 01's answer to them, and each lent word.
 mod bits;
+mod chunks;
+mod near;
 mod pairings;
 mod parts;
 mod words;

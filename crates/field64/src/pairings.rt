@@ -1,12 +1,17 @@
-// The four pairings of order and significance, each with its own constants.
+// The four pairings of order and significance, each with its own constants. Those of an order with its own significance go through a chunk
+// where that pays.
 use crate::bits::load_bits;
 use crate::bits::store_bits;
+use crate::near::load_near;
+use crate::near::pays;
+use crate::near::store_near;
 use rules::Order;
 use rules::Significance;
 ghost use mathlib.Core.Path.{_≡_};
 ghost use Prim.Native.Nat.{_+_, _*_, _^_, _<_, _≤_};
 ghost use lib.ListN.{length};
 ghost use Rattle.rules.specs.Fields.{loadOf, storeOf};
+ghost use Rattle.rules.proofs.Chunks.{chunk};
 
 // A load by its pairing.
 pub fn load_by(
@@ -17,17 +22,29 @@ pub fn load_by(
     head: usize,
     len: usize,
 ) -> u64
-    requires { ⌜ (head < 64) × (1 ≤ len) × (len ≤ 64) × (word * 64 + head + len ≤ length (now words) * 64) ⌝ }
+    requires { ⌜ (head < 64) × (1 ≤ len) × (len ≤ chunk) × (word * 64 + head + len ≤ length (now words) * 64) ⌝ }
     ensures { λ r. ⌜ (r ≡ loadOf 64 order significance (now (words .entry)) (word * 64 + head) len) × (r < 2 ^ len) ⌝ }
 {
     match order {
         Order::Lsb0 => match significance {
-            Significance::Le => load_bits(words, Order::Lsb0, Significance::Le, word, head, len),
+            Significance::Le => {
+                if pays(words.len() - word) {
+                    load_near(words, Order::Lsb0, Significance::Le, word, head, len)
+                } else {
+                    load_bits(words, Order::Lsb0, Significance::Le, word, head, len)
+                }
+            }
             Significance::Be => load_bits(words, Order::Lsb0, Significance::Be, word, head, len),
         },
         Order::Msb0 => match significance {
             Significance::Le => load_bits(words, Order::Msb0, Significance::Le, word, head, len),
-            Significance::Be => load_bits(words, Order::Msb0, Significance::Be, word, head, len),
+            Significance::Be => {
+                if pays(words.len() - word) {
+                    load_near(words, Order::Msb0, Significance::Be, word, head, len)
+                } else {
+                    load_bits(words, Order::Msb0, Significance::Be, word, head, len)
+                }
+            }
         },
     }
 }
@@ -42,20 +59,18 @@ pub fn store_by(
     len: usize,
     v: u64,
 )
-    requires { ⌜ (head < 64) × (1 ≤ len) × (len ≤ 64) × (word * 64 + head + len ≤ length (now words) * 64) ⌝ }
+    requires { ⌜ (head < 64) × (1 ≤ len) × (len ≤ chunk) × (word * 64 + head + len ≤ length (now words) * 64) ⌝ }
     ensures { λ _. ⌜ now (words .exit) ≡ storeOf 64 order significance (now (words .entry)) (word * 64 + head) len v ⌝ }
 {
     match order {
         Order::Lsb0 => match significance {
-            Significance::Le => store_bits(
-                words,
-                Order::Lsb0,
-                Significance::Le,
-                word,
-                head,
-                len,
-                v,
-            ),
+            Significance::Le => {
+                if pays(words.len() - word) {
+                    store_near(words, Order::Lsb0, Significance::Le, word, head, len, v)
+                } else {
+                    store_bits(words, Order::Lsb0, Significance::Le, word, head, len, v)
+                }
+            }
             Significance::Be => store_bits(
                 words,
                 Order::Lsb0,
@@ -76,15 +91,13 @@ pub fn store_by(
                 len,
                 v,
             ),
-            Significance::Be => store_bits(
-                words,
-                Order::Msb0,
-                Significance::Be,
-                word,
-                head,
-                len,
-                v,
-            ),
+            Significance::Be => {
+                if pays(words.len() - word) {
+                    store_near(words, Order::Msb0, Significance::Be, word, head, len, v)
+                } else {
+                    store_bits(words, Order::Msb0, Significance::Be, word, head, len, v)
+                }
+            }
         },
     }
 }

@@ -10,6 +10,7 @@ ghost use mathlib.Core.Path.{_≡_};
 ghost use Prim.Native.Nat.{_+_, _*_, _^_, _<_, _≤_};
 ghost use lib.ListN.{length};
 ghost use Rattle.rules.specs.Fields.{loadOf, storeOf};
+ghost use Rattle.rules.proofs.Chunks.{chunk};
 
 // The number that `whole` words from word `start` on are with `last` bits of the word after them.
 fn load_rest(
@@ -40,7 +41,7 @@ pub fn load_bits(
     head: usize,
     len: usize,
 ) -> u64
-    requires { ⌜ (head < 8) × (1 ≤ len) × (len ≤ 64) × (word * 8 + head + len ≤ length (now words) * 8) ⌝ }
+    requires { ⌜ (head < 8) × (1 ≤ len) × (len ≤ chunk) × (word * 8 + head + len ≤ length (now words) * 8) ⌝ }
     ensures { λ r. ⌜ (r ≡ loadOf 8 order significance (now (words .entry)) (word * 8 + head) len) × (r < 2 ^ len) ⌝ }
 {
     let cut = Cut::of(8, head, len);
@@ -87,7 +88,7 @@ pub fn store_bits(
     len: usize,
     v: u64,
 )
-    requires { ⌜ (head < 8) × (1 ≤ len) × (len ≤ 64) × (word * 8 + head + len ≤ length (now words) * 8) ⌝ }
+    requires { ⌜ (head < 8) × (1 ≤ len) × (len ≤ chunk) × (word * 8 + head + len ≤ length (now words) * 8) ⌝ }
     ensures { λ _. ⌜ now (words .exit) ≡ storeOf 8 order significance (now (words .entry)) (word * 8 + head) len v ⌝ }
 {
     let cut = Cut::of(8, head, len);

@@ -13,6 +13,9 @@ ghost use Rattle.rules.proofs.Field.{lowest};
 ghost use Rattle.rules.proofs.Chunk.{masked};
 ghost use Rattle.rules.proofs.Cuts.{Cuts, pieceOf, joined, firstOf, restOf};
 
+// How many bits are read and written at once where that pays, and the most that a field has.
+pub const CHUNK: usize = 64;
+
 // A run of bits cut where words end: how many bits of the first word, how many whole words after it, how many bits of the last word. The
 // first piece is never empty; it ends with its word unless it is all.
 pub struct Cut {
@@ -24,7 +27,7 @@ pub struct Cut {
 impl Cut {
     // The cut of `len` bits from index `head` of a word of `width` bits on.
     pub fn of(width: usize, head: usize, len: usize) -> Cut
-        requires { ⌜ (head < width) × (1 ≤ len) ⌝ }
+        requires { ⌜ (head < width) × (1 ≤ len) × (len ≤ 64) ⌝ }
         ensures { λ r. ⌜ Cuts width head len (r .first) (r .whole) (r .last) ⌝ }
     {
         let room = width - head;
@@ -36,6 +39,13 @@ impl Cut {
             };
         }
         let rest = len - room;
+        if width == CHUNK {
+            return Cut {
+                first: room,
+                whole: 0,
+                last: rest,
+            };
+        }
         Cut {
             first: room,
             whole: rest / width,

@@ -56,6 +56,11 @@ cut-more W head len h more =
       rest = mod-lt (len - (W - head)) (omega arith);
     }
 
+-- no more than a word's bits: no whole word after the first
+pub cut-two : (W head len : ℕ) → head < W → W - head < len → len ≤ W → Cuts W head len (W - head) 0 (len - (W - head))
+cut-two W head len h more few =
+    record { some = omega arith; within = omega arith; edge = λ l. omega arith; all = omega arith; rest = omega arith }
+
 -- n bits from position p on, by a shift to the top and one to the bottom
 pub shifted : (x p n : ℕ) → p + n ≤ 64 → x * 2 ^ (64 - p - n) % 2 ^ 64 / 2 ^ (64 - n) ≡ x / 2 ^ p % 2 ^ n
 shifted x p n h =

@@ -1,5 +1,5 @@
 -- A field in the words of the rules: cut it where words end, read each piece as a number with the word's own significance, and put the pieces
--- together, the first least significant with le and most significant with be. And what a bit weighs in the two plain pairings. Assumes nothing.
+-- together, the first least significant with le and most significant with be. Assumes nothing.
 use mathlib.Core.Path.{_≡_, refl, sym, ap, ap₂, _∙_}
 use mathlib.Core.List.{List, [], _∷_}
 use Prim.Native.Nat.{ℕ, zero, suc, _+_, _-_, _*_, _/_, _%_, _^_, _≤_, _<_, min}
@@ -10,15 +10,6 @@ use lib.ListN.{getD}
 use Rattle.rules.specs.Types.{Order, Lsb0, Msb0, Significance, Le, Be}
 use Rattle.rules.specs.Fields.{exponent, weigh, loadOf}
 use Rattle.rules.proofs.Field.{lowest, load-one, load-le, load-be}
-
--- Bit i weighs 2 ^ i for Lsb0 le, and 2 ^ (length - 1 - i) for Msb0 be.
-pub weighs-lsb0-le : (W at n i : ℕ) → exponent W Lsb0 Le at n i ≡ i
-unfolding exponent
-weighs-lsb0-le W at n i = refl
-
-pub weighs-msb0-be : (W at n i : ℕ) → exponent W Msb0 Be at n i ≡ n - 1 - i
-unfolding exponent
-weighs-msb0-be W at n i = refl
 
 -- a piece: a number and how many bits it has
 pub record Piece : Type 0 where

@@ -22,9 +22,19 @@ pub mod Funnel
 pub mod Cuts
 pub mod Wholes
 pub mod Pieces
+pub mod Chunks
+-- words by their indexes, and whole rows
+pub mod MaskBits
+pub mod Merged
+pub mod Moves
+pub mod Filled
+pub mod RowPieces
+pub mod WholeWords
+pub mod Scratch
+pub mod Combine
+pub mod Agree
 -- searches
 pub mod Search
-pub mod MaskBits
 pub mod WordSearch
 pub mod Alike
 pub mod RowSearch
@@ -39,6 +49,7 @@ pub mod Sentences
 pub mod Reading
 pub mod SingleBit
 pub mod FieldCalls
+pub mod RowCalls
 pub mod SearchAnswers
 pub mod SearchSentences
 pub mod OneAnswer

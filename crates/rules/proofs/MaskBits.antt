@@ -1,5 +1,6 @@
 -- A mask by the indexes that it covers, and as shifts of a word of ones make it. Assumes nothing.
 use mathlib.Core.Path.{_≡_, sym, ap, _∙_}
+use mathlib.Core.Logic.{_⊎_, inl, inr}
 use Prim.Native.Nat.{ℕ, _+_, _-_, _*_, _/_, _%_, _^_, _≤_, _<_}
 use native.Mathlib.Omega.{arith}
 use lib.Pow.{shl-exact, ones-split, high, ones-lt}
@@ -67,3 +68,8 @@ mask-shifts W o h n k fits e =
 pub lowest-last : (W h n : ℕ) {o : Order} → o ≡ Msb0 → W - h - n ≡ lowest W o h n
 unfolding lowest
 lowest-last W h n e = rw e
+
+-- beside the run there is no bit
+pub mask-out : (W : ℕ) (o : Order) (h n i : ℕ) → h + n ≤ W → i < W → (i < h) ⊎ (h + n ≤ i) → bitN (mask W o h (h + n)) (position W o i) ≡ 0
+mask-out W o h n i fits l (inl s) = mask-below W o h n i fits s
+mask-out W o h n i fits l (inr s) = mask-above W o h n i fits s l

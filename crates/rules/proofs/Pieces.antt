@@ -29,15 +29,21 @@ module _ (W : ℕ) (pos : 0 < W) (o : Order) (g : Significance) (ws : List ℕ) 
   ending : s * W + w * W ≡ (s + w) * W
   ending = sym (add-mul s w W)
 
-  ending-0 : (s + w) * W + 0 ≡ s * W + w * W
-  ending-0 = add-zero ((s + w) * W) ∙ sym ending
+  pub load-next : {a b : ℕ} → a ≡ loadOf W o g ws (s * W) (w * W) → b ≡ loadOf W o g ws ((s + w) * W) m
+      → joined g a (w * W) b m ≡ loadOf W o g ws (s * W) (w * W + m)
+  load-next p q =
+      ap₂ (λ (x y : ℕ). joined g x (w * W) y m) p (q ∙ ap (λ (y : ℕ). loadOf W o g ws y m) (sym ending)) ∙ load-cut W pos o g ws (s * W) (w * W) m (s + w) ending
 
+  pub store-next : (v : ℕ) {xs ys : List ℕ} → xs ≡ storeOf W o g ws (s * W) (w * W) (firstOf g v m) → ys ≡ storeOf W o g xs ((s + w) * W) m (restOf g v (w * W))
+      → ys ≡ storeOf W o g ws (s * W) (w * W + m) v
+  store-next v p q =
+      q ∙ ap₂ (λ (us : List ℕ) (y : ℕ). storeOf W o g us y m (restOf g v (w * W))) p (sym ending) ∙ store-cut W pos o g ws (s * W) (w * W) m (s + w) ending v
+
+  -- the same where the last bits are told as a piece, from index 0 on
   pub load-last : {a b : ℕ} → a ≡ loadOf W o g ws (s * W) (w * W) → b ≡ loadOf W o g ws ((s + w) * W + 0) m
       → joined g a (w * W) b m ≡ loadOf W o g ws (s * W) (w * W + m)
-  load-last p q =
-      ap₂ (λ (x y : ℕ). joined g x (w * W) y m) p (q ∙ ap (λ (y : ℕ). loadOf W o g ws y m) ending-0) ∙ load-cut W pos o g ws (s * W) (w * W) m (s + w) ending
+  load-last p q = load-next p (q ∙ ap (λ (y : ℕ). loadOf W o g ws y m) (add-zero ((s + w) * W)))
 
   pub store-last : (v : ℕ) {xs ys : List ℕ} → xs ≡ storeOf W o g ws (s * W) (w * W) (firstOf g v m) → ys ≡ storeOf W o g xs ((s + w) * W + 0) m (restOf g v (w * W))
       → ys ≡ storeOf W o g ws (s * W) (w * W + m) v
-  store-last v p q =
-      q ∙ ap₂ (λ (us : List ℕ) (y : ℕ). storeOf W o g us y m (restOf g v (w * W))) p ending-0 ∙ store-cut W pos o g ws (s * W) (w * W) m (s + w) ending v
+  store-last v {xs} p q = store-next v p (q ∙ ap (λ (y : ℕ). storeOf W o g xs y m (restOf g v (w * W))) (add-zero ((s + w) * W)))

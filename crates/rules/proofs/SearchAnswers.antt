@@ -1,17 +1,15 @@
 -- What a search of a span answers, from the number that a search of its row gives. Assumes nothing.
-use mathlib.Core.Path.{_≡_, refl, sym, ap, _∙_}
-use mathlib.Core.Bool.{Bool, true, false, cond}
+use mathlib.Core.Path.{_≡_, sym, ap, _∙_}
 use mathlib.Core.List.{List}
-use Prim.Native.Nat.{ℕ, zero, suc, _+_, _-_, _*_, _≤_, _<_}
+use Prim.Native.Nat.{ℕ, suc, _+_, _-_, _*_, _≤_, _<_}
 use native.Mathlib.Omega.{arith}
-use lib.Dec.{ltb}
 use lib.ListN.{length}
 use borrow.Author.Tests.{lt-ltb, le-ltb}
-use Rattle.rules.specs.Types.{Span, Refusal, Verdict, Fine, Refused}
+use Rattle.rules.specs.Types.{Span, Refusal, Fine, Refused}
 use Rattle.rules.specs.Positions.{row, start, spanBit}
 use Rattle.rules.specs.Rows.{firstWith, lastWith}
 use Rattle.rules.specs.Refusals.{number, verdict, spanCases}
-use Rattle.rules.specs.Calls.{Answer, refused, found-at, absent, said, Call, findFirst, findLast, firstFound, lastFound, cases, answer!, answer}
+use Rattle.rules.specs.Calls.{Answer, refused, found-at, absent, findFirst, findLast, firstFound, lastFound, cases, answer!, answer}
 
 module _ (W v : ℕ) (s : Span) (ws : List ℕ) where
   -- ---- from a table's verdict and a row's search

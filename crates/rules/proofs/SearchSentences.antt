@@ -1,6 +1,6 @@
 -- Document 01's sentences about the four searches, from what they answer: a found bit has the value, none before (after) it has, and absent is
 -- said exactly if there is no such bit. Assumes nothing.
-use mathlib.Core.Path.{_≡_, refl, sym, ap, _∙_}
+use mathlib.Core.Path.{_≡_, refl, _∙_}
 use mathlib.Core.Logic.{_≢_}
 use mathlib.Core.Bool.{Bool, true, false, cond}
 use mathlib.Core.List.{List}
@@ -14,7 +14,7 @@ use Rattle.rules.specs.Positions.{spanBit}
 use Rattle.rules.specs.Rows.{firstWith, lastWith}
 use Rattle.rules.specs.Refusals.{verdict, spanCases}
 use Rattle.rules.specs.Calls.{Answer, found-at, absent, said, Call, findFirst, findLast, firstFound, lastFound, cases, answer!, answer}
-use Rattle.rules.proofs.Search.{first-here, first-free, first-le, last-here, last-free, last-le}
+use Rattle.rules.proofs.Search.{first-here, first-free, last-here, last-free, last-le}
 use Rattle.rules.proofs.Sentences.{first-at, first-absent, last-at, last-absent}
 use Rattle.rules.proofs.SearchAnswers.{first-said, last-said}
 

@@ -1,5 +1,4 @@
 // The limits of spans: at, below and above each, and sums that pass 2^64. A span is written word:head+length.
-use crate::show;
 use rules::Index;
 use rules::Order;
 use rules::Span;

@@ -1,11 +1,15 @@
 // Runs document 01's sample rows and limits through the library and prints them as a table that a person can hold against the document.
+mod fields;
 mod limits;
 mod numbers;
 mod positions;
-mod show;
+mod rows;
 
 fn main() {
     positions::run();
+    fields::run();
+    rows::run();
+    show::end();
     limits::run();
     numbers::run();
 }

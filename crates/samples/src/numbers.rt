@@ -1,5 +1,4 @@
 // Numbers of K bits: refusals 4, 5, 8 and 9, the low bits of a value, loaded bits with their sign, the machine's i64.
-use crate::show;
 use rules::Number;
 use rules::Sign;
 

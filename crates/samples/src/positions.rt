@@ -1,5 +1,4 @@
 // Positions, selectors and masks, at both widths and in both orders.
-use crate::show;
 use rules::End;
 use rules::Index;
 use rules::Order;

@@ -4,7 +4,7 @@ use mathlib.Core.Path.{_≡_, refl, _∙_}
 use mathlib.Core.Bool.{Bool, true, false}
 use mathlib.Core.List.{List}
 use Rattle.rules.specs.Calls.{Answer}
-use Rattle.stableply.specs.Border.{behind, kept, returned, Told, Found, Rest, Wrote}
+use Rattle.stableply.specs.Border.{behind, kept, returned, Told, Found, Rest, Wrote, Swapped}
 
 module _ {bad : Bool} (a : Answer) where
   pub told-stopped : {old : ℕ} → bad ≡ true → Told (behind bad a) old 255 old
@@ -31,3 +31,10 @@ module _ {bad : Bool} (a : Answer) (memory old : List ℕ) where
 
   pub wrote : {b : Answer} {r : ℕ} {new : List ℕ} → bad ≡ false → r ≡ returned b → b ≡ a → new ≡ memory → Wrote bad a memory old r new
   wrote e f d h = rw e (record { number = f ∙ rw d; holds = h })
+
+module _ {bad : Bool} (a : Answer) (left oldLeft right oldRight : List ℕ) where
+  pub swapped-stopped : bad ≡ true → Swapped bad a left oldLeft right oldRight 255 oldLeft oldRight
+  swapped-stopped e = rw e (record { number = refl; holds-left = refl; holds-right = refl })
+
+  pub swapped : {b : Answer} {r : ℕ} {l m : List ℕ} → bad ≡ false → r ≡ returned b → b ≡ a → l ≡ left → m ≡ right → Swapped bad a left oldLeft right oldRight r l m
+  swapped e f d h k = rw e (record { number = f ∙ rw d; holds-left = h; holds-right = k })

@@ -1,7 +1,7 @@
 -- Codes that are not 0, and numbers that leave in two's complement. Assumes nothing.
 use Prim.Native.Nat.{ℕ, zero, suc, _-_, _^_, _≤_, _<_}
-use mathlib.Core.Path.{_≡_, refl}
-use mathlib.Core.Bool.{Bool, true, false, _||_}
+use mathlib.Core.Path.{_≡_, refl, sym}
+use mathlib.Core.Bool.{Bool, true, false, not, _||_, true≢false}
 use borrow.Author.Tests.{ne-eqb, lt-ltb, le-ltb}
 use Rattle.rules.specs.declared.Order.the-variants.{Msb0}
 use Rattle.rules.specs.declared.Significance.the-variants.{Be}
@@ -72,3 +72,16 @@ later-none x b h e = rw (le-ltb 1 x h) e
 
 pub all-named : (x : ℕ) (b : Bool) → x ≤ 1 → b ≡ false → (none x || b) ≡ false
 all-named x b h e = rw (le-ltb 1 x h) e
+
+-- the test of an operation
+pub no-operation : {b : Bool} → not b ≡ false → b ≡ true
+no-operation {b = true} e = refl
+no-operation {b = false} e = absurd (true≢false e)
+
+pub an-operation : {b : Bool} → not b ≡ true → b ≡ false
+an-operation {b = true} e = absurd (true≢false (sym e))
+an-operation {b = false} e = refl
+
+pub not-not : (b : Bool) → b ≡ not (not b)
+not-not true = refl
+not-not false = refl

@@ -54,6 +54,10 @@ none code = ltb 1 code
 abbrev pub noWidth : ℕ → Bool
 noWidth width = not (eqb width 8 || eqb width 64)
 
+-- an operation is 8, 14 or 6
+abbrev pub noOperation : ℕ → Bool
+noOperation operation = not (eqb operation 8 || eqb operation 14 || eqb operation 6)
+
 -- 255 where an argument is no code, before every numbered refusal
 abbrev pub behind : Bool → Answer → Answer
 behind true a = refused 255
@@ -166,3 +170,9 @@ pub record Rest (answer : Answer) (oldWord oldHead oldLength r word head length 
 pub record Wrote (bad : Bool) (answer : Answer) (memory old : List ℕ) (r : ℕ) (new : List ℕ) : Type 0 where
   pub number : r ≡ returned (behind bad answer)
   pub holds : new ≡ kept bad memory old
+
+-- the same of a swap, with both buffers
+pub record Swapped (bad : Bool) (answer : Answer) (left oldLeft right oldRight : List ℕ) (r : ℕ) (newLeft newRight : List ℕ) : Type 0 where
+  pub number : r ≡ returned (behind bad answer)
+  pub holds-left : newLeft ≡ kept bad left oldLeft
+  pub holds-right : newRight ≡ kept bad right oldRight

@@ -6,7 +6,8 @@ use rules::Sign;
 use rules::Significance;
 use rules::Span;
 ghost use mathlib.Core.Path.{_≡_};
-ghost use Rattle.stableply.specs.Border.{orderOf, significanceOf, signOf, numberOf, bitOf, spanOf};
+ghost use mathlib.Core.Bool.{not};
+ghost use Rattle.stableply.specs.Border.{orderOf, significanceOf, signOf, numberOf, bitOf, spanOf, noOperation};
 
 // The order that a code names.
 pub fn order_of(code: u8) -> Order
@@ -66,4 +67,17 @@ pub fn bit_of(code: u8) -> bool
     ensures { λ r. ⌜ r ≡ bitOf code ⌝ }
 {
     if code == 0 { false } else { true }
+}
+
+// Whether a number is that of and, or, or xor.
+pub fn is_operation(operation: u8) -> bool
+    ensures { λ r. ⌜ r ≡ not (noOperation operation) ⌝ }
+{
+    if operation == 8 {
+        return true;
+    }
+    if operation == 14 {
+        return true;
+    }
+    operation == 6
 }

@@ -4,6 +4,8 @@ mod codes;
 mod fields64;
 mod fields8;
 mod leaving;
+mod rows64;
+mod rows8;
 mod searches64;
 mod searches8;
 mod wordless;

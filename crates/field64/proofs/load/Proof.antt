@@ -3,6 +3,7 @@ use borrow.Author.Needs.{needs}
 use native.Mathlib.Omega.{arith}
 use mathlib.Core.Path.{_≡_, sym, _∙_}
 use lib.ListN.{length}
+use lib.Pow.{pow-pos, pow-mono}
 use denote.Ref.{now}
 use Rattle.rules.specs.declared.Verdict.the-variants.{Fine}
 use Rattle.rules.specs.Positions.{start}
@@ -31,7 +32,11 @@ load-by-requires : tie.Need-load-by-requires
 load-by-requires c κs = let h = held c in let i = h .lies in let z = h .sized in (i .starts, omega arith, omega arith, i .ends)
 
 of-bits-requires : tie.Need-of-bits-requires
-of-bits-requires c κs = let h = held (c .before) in let z = h .sized in (omega arith, omega arith, c .load-by .ensures .1)
+of-bits-requires c κs =
+    let h = held (c .before) in
+    let z = h .sized in
+    let a = c .before .before .before .before .before .args in
+    (omega arith, omega arith, omega (arith, c .load-by .ensures .1, pow-pos (a .span .len), pow-mono (z .fitting)))
 
 returns : tie.Need-returns
 returns c = load-refused 64 _ _ _ _ _ (sym (c .before .before .before .check-load .ensures) ∙ c .before .verdict .given .1)

@@ -1,6 +1,6 @@
 -- `last_one`: refused by the span's table, or the row's answer. Assumes nothing.
 use borrow.Author.Needs.{needs}
-use mathlib.Core.Path.{_≡_, sym, _∙_}
+use mathlib.Core.Path.{sym, _∙_}
 use Rattle.rules.proofs.Tables.{fine-inside}
 use Rattle.rules.proofs.SearchAnswers.{last-refused, answers-last}
 use Rattle.search64.proofs.last_one.Statement.{statement}

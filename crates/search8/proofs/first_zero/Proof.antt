@@ -1,6 +1,6 @@
 -- `first_zero`: refused by the span's table, or the row's answer. Assumes nothing.
 use borrow.Author.Needs.{needs}
-use mathlib.Core.Path.{_≡_, sym, _∙_}
+use mathlib.Core.Path.{sym, _∙_}
 use Rattle.rules.proofs.Tables.{fine-inside}
 use Rattle.rules.proofs.SearchAnswers.{first-refused, answers-first}
 use Rattle.search8.proofs.first_zero.Statement.{statement}

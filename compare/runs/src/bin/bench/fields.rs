@@ -1,0 +1,130 @@
+//! Fields at odd heads.
+
+use std::hint::black_box;
+
+use bitvec::{
+    field::BitField,
+    oracle::{view, view_mut},
+    order::{BitOrder, Lsb0, Msb0},
+    slice::BitSlice,
+};
+use runs::random::Random;
+
+use crate::{
+    contest::{Buffers, Contest, Who, Work},
+    plain::Plain,
+    width::{Calls, Kind, Row, Width},
+};
+
+/// How many fields are taken in one go, and from how many words.
+const FIELDS: usize = 1024;
+const WORDS: usize = 8192;
+
+/// What is done to a field.
+#[derive(Clone, Copy, Debug, Eq, PartialEq)]
+pub enum Job {
+    Load,
+    Store,
+}
+
+/// Random words and odd heads: where the fields begin.
+fn places<T: Width>(order: u8, length: usize) -> Vec<Row> {
+    let mut random = Random::new(9);
+    let width = <T as Plain>::WIDTH as u64;
+    let mut place = || Row {
+        order,
+        word: random.upto(WORDS as u64 - 10) as usize,
+        head: (2 * random.upto(width / 2 - 1) + 1) as usize,
+        length,
+    };
+    (0..FIELDS).map(|_| place()).collect()
+}
+
+/// The contest of a load or store of fields of K bits, all of them used.
+pub fn contest<T: Width>(job: Job, order: u8, kind: Kind) -> Contest<T> {
+    let places = places::<T>(order, kind.k);
+    let bitvec = match (job, order) {
+        (Job::Load, 0) => bitvec_load::<T, Lsb0>(places.clone(), kind),
+        (Job::Load, _) => bitvec_load::<T, Msb0>(places.clone(), kind),
+        (Job::Store, 0) => bitvec_store::<T, Lsb0>(places.clone(), kind),
+        (Job::Store, _) => bitvec_store::<T, Msb0>(places.clone(), kind),
+    };
+    let works = vec![
+        (Who::Library, by_calls::<T, T::Library>(job, places.clone(), kind)),
+        (Who::Bitvec, bitvec),
+        (Who::Plain, by_calls::<T, T::PlainRust>(job, places, kind)),
+    ];
+    Contest { buffers: Buffers::random(WORDS), works, repeat: FIELDS }
+}
+
+/// Takes all fields; answers a mix of their numbers.
+fn each_load<T: Width>(places: Vec<Row>, load: impl Fn(&[T], Row) -> u64 + 'static) -> Work<T> {
+    Box::new(move |buffers| places.iter().fold(0, |mix: u64, &row| mix.rotate_left(1) ^ load(&buffers.left, row)))
+}
+
+/// Puts a number into all fields.
+fn each_store<T: Width>(places: Vec<Row>, store: impl Fn(&mut [T], Row, u64) + 'static) -> Work<T> {
+    Box::new(move |buffers| {
+        places.iter().for_each(|&row| store(&mut buffers.left, row, black_box(0x5A)));
+        0
+    })
+}
+
+/// The work of the library, or of plain Rust.
+fn by_calls<T: Width, C: Calls<T>>(job: Job, places: Vec<Row>, kind: Kind) -> Work<T> {
+    match job {
+        Job::Load => each_load(places, move |words: &[T], row| C::load(words, row, kind)),
+        Job::Store => each_store(places, move |words: &mut [T], row, value| {
+            C::store(words, row, kind, value);
+        }),
+    }
+}
+
+/// Calls `$each` with the integer type and the method of the kind, so that bitvec knows both when it
+/// is compiled.
+macro_rules! by_kind {
+    ($kind:expr, $each:ident, $le:ident, $be:ident) => {
+        match ($kind.k, $kind.sign, $kind.significance) {
+            (8, 0, 0) => $each!(u8, $le),
+            (8, 0, _) => $each!(u8, $be),
+            (8, _, 0) => $each!(i8, $le),
+            (8, _, _) => $each!(i8, $be),
+            (_, 0, 0) => $each!(u64, $le),
+            (_, 0, _) => $each!(u64, $be),
+            (_, _, 0) => $each!(i64, $le),
+            (_, _, _) => $each!(i64, $be),
+        }
+    };
+}
+
+/// bitvec's loads.
+fn bitvec_load<T: Width, O: BitOrder>(places: Vec<Row>, kind: Kind) -> Work<T>
+where
+    BitSlice<T, O>: BitField,
+{
+    macro_rules! load {
+        ($integer:ty, $method:ident) => {
+            each_load(places, move |words: &[T], row| {
+                let length = 8 * size_of::<$integer>();
+                view::<T, O>(words, row.word, row.head as u8, length).$method::<$integer>() as i64 as u64
+            })
+        };
+    }
+    by_kind!(kind, load, load_le, load_be)
+}
+
+/// bitvec's stores.
+fn bitvec_store<T: Width, O: BitOrder>(places: Vec<Row>, kind: Kind) -> Work<T>
+where
+    BitSlice<T, O>: BitField,
+{
+    macro_rules! store {
+        ($integer:ty, $method:ident) => {
+            each_store(places, move |words: &mut [T], row, value| {
+                let length = 8 * size_of::<$integer>();
+                view_mut::<T, O>(words, row.word, row.head as u8, length).$method::<$integer>(value as $integer)
+            })
+        };
+    }
+    by_kind!(kind, store, store_le, store_be)
+}

@@ -1,0 +1,103 @@
+//! One measured line: figures, ratios, bars.
+
+use crate::contest::{Times, Who};
+
+/// What a line belongs to.
+#[derive(Clone, Copy, Debug, Eq, PartialEq)]
+pub enum Part {
+    Fields,
+    ShortRows,
+    Rows,
+    Searches,
+    FirstWord,
+}
+
+impl Part {
+    pub const ALL: [Part; 5] = [Part::Fields, Part::ShortRows, Part::Rows, Part::Searches, Part::FirstWord];
+
+    /// Its title.
+    pub fn title(self) -> &'static str {
+        match self {
+            Part::Fields => "Fields at odd heads",
+            Part::ShortRows => "Rows of 100 bits",
+            Part::Rows => "Rows",
+            Part::Searches => "Searches of sparse rows, the bit at the far end",
+            Part::FirstWord => "Searches that find the bit in the first word",
+        }
+    }
+
+    /// Whether its figures are gigabytes a second, else nanoseconds.
+    pub fn is_rate(self) -> bool {
+        matches!(self, Part::Rows | Part::Searches)
+    }
+}
+
+/// The library is to be at least so many times as fast as another.
+#[derive(Clone, Copy)]
+pub struct Bar {
+    pub against: Who,
+    pub at_least: f64,
+}
+
+impl Bar {
+    /// Its number, with at most two places.
+    pub fn text(self) -> String {
+        format!("{}", (self.at_least * 100.0).round() / 100.0)
+    }
+}
+
+/// A job with its times.
+pub struct Line {
+    pub part: Part,
+    pub job: &'static str,
+    pub width: usize,
+    pub order: u8,
+    /// The words of the row's buffer.
+    pub words: usize,
+    /// The bits that the job is about.
+    pub bits: usize,
+    pub times: Times,
+    pub bars: Vec<Bar>,
+}
+
+impl Line {
+    /// Nanoseconds, or gigabytes (10^9 bytes of one side's row) a second.
+    pub fn figure(&self, who: Who) -> Option<f64> {
+        let time = self.times[who as usize]?;
+        Some(if self.part.is_rate() { self.bits as f64 / 8.0 / time } else { time })
+    }
+
+    /// How many times as fast as another the library is.
+    pub fn ratio(&self, who: Who) -> Option<f64> {
+        Some(self.times[who as usize]? / self.times[Who::Library as usize]?)
+    }
+
+    /// Whether a bar is met.
+    pub fn meets(&self, bar: Bar) -> bool {
+        self.ratio(bar.against).is_some_and(|ratio| ratio >= bar.at_least)
+    }
+
+    /// The order's name.
+    pub fn order_name(&self) -> &'static str {
+        ["Lsb0", "Msb0"][self.order as usize]
+    }
+
+    /// The bars with what became of them.
+    pub fn bars_text(&self) -> String {
+        let text = |bar: &Bar| {
+            let verdict = if self.meets(*bar) { "met" } else { "MISSED" };
+            format!("{} {}: {verdict}", name(bar.against), bar.text())
+        };
+        self.bars.iter().map(text).collect::<Vec<_>>().join("; ")
+    }
+}
+
+/// What a contestant is called in the tables.
+pub fn name(who: Who) -> &'static str {
+    match who {
+        Who::Library => "library",
+        Who::Bitvec => "bitvec",
+        Who::Plain => "plain",
+        Who::Memory => "mem*",
+    }
+}

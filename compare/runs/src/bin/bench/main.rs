@@ -1,0 +1,78 @@
+//! The library's speed beside bitvec's, plain Rust's, and that of memcpy, memmove, memcmp and memchr.
+//!
+//!     bench            measures and prints
+//!     bench quick      the same, shorter: only the longest rows
+//!     bench DOCS       measures, prints, and renews DOCS/BENCHMARKS.md and DOCS/benchmarks.svg
+
+use std::{fs, path::Path, process::ExitCode};
+
+use line::Line;
+use measures::{measure, Effort, LONGEST};
+
+mod contest;
+mod fields;
+mod line;
+mod measures;
+mod picture;
+mod plain;
+mod rows;
+mod searches;
+mod table;
+mod width;
+
+fn main() -> ExitCode {
+    let words: Vec<String> = std::env::args().skip(1).collect();
+    let words: Vec<&str> = words.iter().map(String::as_str).collect();
+    let (effort, docs) = match words[..] {
+        [] => (FULL, None),
+        ["quick"] => (QUICK, None),
+        [docs] if around(Path::new(docs)).is_some() => (FULL, Some(Path::new(docs))),
+        _ => {
+            eprintln!("usage: bench [quick | DOCS], DOCS with a BENCHMARKS.md that has a measured part");
+            return ExitCode::from(2);
+        }
+    };
+    let mut lines = Vec::new();
+    measure::<u8>(&mut lines, effort);
+    measure::<u64>(&mut lines, effort);
+    table::print(&lines);
+    println!("\n{}", table::summary(&lines));
+    if let Some(docs) = docs {
+        renew(docs, &lines);
+    }
+    ExitCode::SUCCESS
+}
+
+const FULL: Effort = Effort { rounds: 31, all_lengths: true };
+const QUICK: Effort = Effort { rounds: 5, all_lengths: false };
+
+/// What stands in BENCHMARKS.md around the measured part.
+const BEGIN: &str = "<!-- measured: begin -->\n";
+const END: &str = "<!-- measured: end -->\n";
+
+/// The text of BENCHMARKS.md before and after the measured part, if it has one.
+fn around(docs: &Path) -> Option<(String, String)> {
+    let text = fs::read_to_string(docs.join("BENCHMARKS.md")).ok()?;
+    let (before, rest) = text.split_once(BEGIN)?;
+    let (_, after) = rest.split_once(END)?;
+    Some((before.to_string(), after.to_string()))
+}
+
+/// Puts the tables between the marks of BENCHMARKS.md, and the picture beside it.
+fn renew(docs: &Path, lines: &[Line]) {
+    let (before, after) = around(docs).expect("BENCHMARKS.md to have its marks");
+    let machine = format!("Measured on: {}.\n\n", processor());
+    let text = [&before, BEGIN, &machine, &table::markdown(lines), END, &after].concat();
+    let shown = |line: &&Line| line.part.is_rate() && line.words == LONGEST && line.order == 0;
+    let shown: Vec<&Line> = lines.iter().filter(shown).collect();
+    fs::write(docs.join("BENCHMARKS.md"), text).expect("BENCHMARKS.md to be writable");
+    fs::write(docs.join("benchmarks.svg"), picture::svg(&shown)).expect("the picture to be writable");
+}
+
+/// The processor's name, as the system tells it.
+fn processor() -> String {
+    let about = fs::read_to_string("/proc/cpuinfo").unwrap_or_default();
+    let name = about.lines().find_map(|line| line.strip_prefix("model name")?.split_once(':'));
+    let cores = std::thread::available_parallelism().map_or(1, |cores| cores.get());
+    format!("{}, {cores} cores", name.map_or("unknown processor", |(_, name)| name.trim()))
+}

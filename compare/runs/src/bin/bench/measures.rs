@@ -1,0 +1,179 @@
+//! What is measured, and the bars it is held to.
+
+use runs::call::Call;
+
+use crate::{
+    contest::{Buffers, Who},
+    fields,
+    line::{Bar, Line, Part},
+    plain::Plain,
+    rows::{self, Job, Task},
+    searches::{self, Bit},
+    width::{Kind, Row, Width},
+};
+
+/// How much is measured.
+#[derive(Clone, Copy, PartialEq)]
+pub struct Effort {
+    pub rounds: usize,
+    pub all_lengths: bool,
+}
+
+/// The most words of a row.
+pub const LONGEST: usize = 1 << 16;
+
+/// Measures everything at one width.
+pub fn measure<T: Width>(lines: &mut Vec<Line>, effort: Effort) {
+    for order in 0..2 {
+        fields::<T>(lines, effort, order);
+        short_rows::<T>(lines, effort, order);
+        for words in lengths::<T>(effort) {
+            long_rows::<T>(lines, effort, order, words);
+            far_searches::<T>(lines, effort, order, words);
+        }
+        first_word_searches::<T>(lines, effort, order);
+    }
+}
+
+/// The lengths of rows: those asked for, and that of 64 KiB.
+fn lengths<T: Width>(effort: Effort) -> Vec<usize> {
+    let mut lengths = if effort.all_lengths { vec![1 << 6, 1 << 10, 1 << 14] } else { Vec::new() };
+    lengths.extend([LONGEST, LONGEST / size_of::<T>()]);
+    lengths.sort();
+    lengths.dedup();
+    lengths
+}
+
+/// Whether a row is one that the bars speak of: 65,536 words or 64 KiB.
+fn is_long<T: Width>(words: usize) -> bool {
+    words == LONGEST || words == LONGEST / size_of::<T>()
+}
+
+/// The library is to be at least so many times as fast as another.
+fn bar(against: Who, at_least: f64) -> Bar {
+    Bar { against, at_least }
+}
+
+/// At most one and a half times the time of plain Rust.
+const NEARLY_PLAIN: f64 = 1.0 / 1.5;
+
+/// Loads and stores of fields at odd heads.
+fn fields<T: Width>(lines: &mut Vec<Line>, effort: Effort, order: u8) {
+    for (k, significance, sign) in [8, 64].into_iter().flat_map(|k| [(k, 0, 0), (k, 1, 0), (k, 0, 1), (k, 1, 1)]) {
+        let kind = Kind { k, significance, sign };
+        let mut measure = |job, name, wide, narrow| {
+            let times = fields::contest::<T>(job, order, kind).run(effort.rounds);
+            let bars = vec![bar(Who::Bitvec, if size_of::<T>() == 8 { wide } else { narrow })];
+            let width = <T as Plain>::WIDTH;
+            lines.push(Line { part: Part::Fields, job: name, width, order, words: 8192, bits: k, times, bars });
+        };
+        measure(fields::Job::Load, field_name("load", kind), 1.3, 1.6);
+        if sign == 0 {
+            measure(fields::Job::Store, field_name("store", kind), 1.1, 1.3);
+        }
+    }
+}
+
+/// A field job's name, as "load u8 le".
+fn field_name(job: &str, kind: Kind) -> &'static str {
+    let sign = ["u", "i"][kind.sign as usize];
+    let significance = ["le", "be"][kind.significance as usize];
+    format!("{job} {sign}{} {significance}", kind.k).leak()
+}
+
+/// The row jobs: name, job, whether heads are equal, what it has to be of bitvec.
+const ROWS: [(&str, Job, bool, f64); 14] = [
+    ("copy_from, equal heads", Job::CopyFrom, true, 20.0),
+    ("copy_from, differing heads", Job::CopyFrom, false, 12.0),
+    ("copy_within up by 64", Job::CopyUp(64), true, 8.0),
+    ("copy_within up by 13", Job::CopyUp(13), false, 8.0),
+    ("copy_within down by 13", Job::CopyDown(13), false, 8.0),
+    ("and, equal heads", Job::Boolean(8), true, 15.0),
+    ("and, differing heads", Job::Boolean(8), false, 15.0),
+    ("or, equal heads", Job::Boolean(14), true, 15.0),
+    ("or, differing heads", Job::Boolean(14), false, 15.0),
+    ("xor, differing heads", Job::Boolean(6), false, 15.0),
+    ("swap, equal heads", Job::Swap, true, 15.0),
+    ("swap, differing heads", Job::Swap, false, 15.0),
+    ("equal, equal heads", Job::Equal, true, 20.0),
+    ("equal, differing heads", Job::Equal, false, 12.0),
+];
+
+/// A job on a row of so many bits, the second row at the same head or at another.
+fn task(job: Job, equal_heads: bool, order: u8, length: usize) -> Task {
+    let left = Row { order, word: 0, head: 3, length };
+    Task { job, left, right: Row { head: if equal_heads { 3 } else { 5 }, ..left } }
+}
+
+/// All row jobs on buffers of so many words.
+fn long_rows<T: Width>(lines: &mut Vec<Line>, effort: Effort, order: u8, words: usize) {
+    let width = <T as Plain>::WIDTH;
+    for (name, job, equal_heads, of_bitvec) in ROWS {
+        let task = task(job, equal_heads, order, (words - 1) * width);
+        let repeat = (LONGEST / words).min(64);
+        let times = rows::contest::<T>(task, Buffers::random(words), repeat).run(effort.rounds);
+        let mut bars = Vec::new();
+        if is_long::<T>(words) {
+            let whole = equal_heads && times[Who::Memory as usize].is_some();
+            let second = if whole { bar(Who::Memory, 0.5) } else { bar(Who::Plain, 0.7) };
+            bars = vec![bar(Who::Bitvec, of_bitvec), second];
+        }
+        lines.push(Line { part: Part::Rows, job: name, width, order, words, bits: task.bits(), times, bars });
+    }
+}
+
+/// All row jobs on 100 bits.
+fn short_rows<T: Width>(lines: &mut Vec<Line>, effort: Effort, order: u8) {
+    let width = <T as Plain>::WIDTH;
+    for (name, job, equal_heads, _) in ROWS {
+        let task = task(job, equal_heads, order, 100);
+        let words = 64 / size_of::<T>();
+        let times = rows::contest::<T>(task, Buffers::random(words), 256).run(effort.rounds);
+        let bars = if width == 64 { vec![bar(Who::Plain, NEARLY_PLAIN)] } else { Vec::new() };
+        lines.push(Line { part: Part::ShortRows, job: name, width, order, words, bits: task.bits(), times, bars });
+    }
+}
+
+const SEARCHES: [(&str, Call); 4] = [
+    ("first_one", Call::FirstOne),
+    ("last_one", Call::LastOne),
+    ("first_zero", Call::FirstZero),
+    ("last_zero", Call::LastZero),
+];
+
+/// All searches of a row whose only bit they come to last.
+fn far_searches<T: Width>(lines: &mut Vec<Line>, effort: Effort, order: u8, words: usize) {
+    let width = <T as Plain>::WIDTH;
+    let row = Row { order, word: 0, head: 3, length: (words - 1) * width };
+    for (name, call) in SEARCHES {
+        let repeat = (LONGEST / words).min(64);
+        let times = searches::contest::<T>(call, row, words, Bit::FarEnd, repeat).run(effort.rounds);
+        let mut bars = Vec::new();
+        if words == LONGEST {
+            bars = vec![bar(Who::Bitvec, if width == 8 { 15.0 } else { 1.5 }), bar(Who::Memory, 0.5)];
+        }
+        lines.push(Line { part: Part::Searches, job: name, width, order, words, bits: row.length, times, bars });
+    }
+}
+
+/// All searches of a row whose only bit they see at once.
+fn first_word_searches<T: Width>(lines: &mut Vec<Line>, effort: Effort, order: u8) {
+    let width = <T as Plain>::WIDTH;
+    let row = Row { order, word: 0, head: 3, length: (LONGEST - 1) * width };
+    for (name, call) in SEARCHES {
+        let mut contest = searches::contest::<T>(call, row, LONGEST, Bit::FirstWord, 256);
+        contest.works.retain(|(who, _)| *who != Who::Memory);
+        let times = contest.run(effort.rounds);
+        let bars = vec![bar(Who::Plain, NEARLY_PLAIN)];
+        lines.push(Line {
+            part: Part::FirstWord,
+            job: name,
+            width,
+            order,
+            words: LONGEST,
+            bits: row.length,
+            times,
+            bars,
+        });
+    }
+}

@@ -1,0 +1,168 @@
+//! The C calls by the word's type: the library's, and those of plain Rust.
+
+use bitvec::{
+    oracle::{view, view_mut},
+    order::BitOrder,
+    slice::BitSlice,
+};
+use runs::{call::Call, lent::Lent};
+
+use crate::plain::{self, Plain};
+
+/// A span of a buffer.
+#[derive(Clone, Copy)]
+pub struct Row {
+    pub order: u8,
+    pub word: usize,
+    pub head: usize,
+    pub length: usize,
+}
+
+impl Row {
+    /// As bitvec sees it.
+    pub fn see<T: Lent, O: BitOrder>(self, words: &[T]) -> &BitSlice<T, O> {
+        view(words, self.word, self.head as u8, self.length)
+    }
+
+    /// As bitvec writes it.
+    pub fn see_mut<T: Lent, O: BitOrder>(self, words: &mut [T]) -> &mut BitSlice<T, O> {
+        view_mut(words, self.word, self.head as u8, self.length)
+    }
+}
+
+/// A field's K, significance and sign.
+#[derive(Clone, Copy)]
+pub struct Kind {
+    pub k: usize,
+    pub significance: u8,
+    pub sign: u8,
+}
+
+/// The library's calls.
+pub struct Library;
+
+/// Plain Rust's.
+pub struct PlainRust;
+
+/// A word's type with both.
+pub trait Width: Lent + Plain {
+    type Library: Calls<Self>;
+    type PlainRust: Calls<Self>;
+}
+
+impl Width for u8 {
+    type Library = Library;
+    type PlainRust = PlainRust;
+}
+
+impl Width for u64 {
+    type Library = Library;
+    type PlainRust = PlainRust;
+}
+
+/// The calls of one of the two. Each answers a number that shows a refusal too.
+pub trait Calls<T>: 'static {
+    fn load(words: &[T], row: Row, kind: Kind) -> u64;
+    fn store(words: &mut [T], row: Row, kind: Kind, value: u64) -> u64;
+    fn copy_from(words: &mut [T], row: Row, source: &[T], from: Row) -> u64;
+    fn copy_within(words: &mut [T], row: Row, start: usize, count: usize, destination: usize) -> u64;
+    fn boolean(words: &mut [T], row: Row, right: &[T], from: Row, operation: u8) -> u64;
+    fn swap(words: &mut [T], row: Row, right: &mut [T], from: Row) -> u64;
+    fn equal(words: &[T], row: Row, right: &[T], from: Row) -> u64;
+    fn search(call: Call, words: &[T], row: Row) -> u64;
+}
+
+/// What a search that found nothing answers here.
+pub const ABSENT: u64 = u64::MAX - 1;
+
+/// 0 where accepted; a number that no answer is, where refused.
+fn done(code: u8) -> u64 {
+    if code == 0 {
+        0
+    } else {
+        u64::MAX
+    }
+}
+
+macro_rules! one {
+    ($name:path, $pointer:expr, $lent:expr, $row:expr $(, $rest:expr)*) => {
+        unsafe { $name($pointer, $lent, $row.order, $row.word, $row.head, $row.length $(, $rest)*) }
+    };
+}
+
+macro_rules! two {
+    ($name:path, $pointer:expr, $lent:expr, $row:expr, $second:expr, $second_lent:expr, $from:expr $(, $rest:expr)*) => {
+        one!($name, $pointer, $lent, $row, $second, $second_lent, $from.order, $from.word, $from.head, $from.length $(, $rest)*)
+    };
+}
+
+macro_rules! calls {
+    ($whose:ty, $word:ty, $calls:path) => {
+        const _: () = {
+            use $calls as calls;
+
+            impl Calls<$word> for $whose {
+                #[inline(always)]
+                fn load(words: &[$word], row: Row, kind: Kind) -> u64 {
+                    let (mut out, pointer, lent) = (0, words.as_ptr(), words.len());
+                    let code = one!(calls::load, pointer, lent, row, kind.k, kind.significance, kind.sign, &mut out);
+                    out | done(code)
+                }
+
+                #[inline(always)]
+                fn store(words: &mut [$word], row: Row, kind: Kind, value: u64) -> u64 {
+                    let (pointer, lent) = (words.as_mut_ptr(), words.len());
+                    done(one!(calls::store, pointer, lent, row, kind.k, kind.significance, kind.sign, 0, value))
+                }
+
+                #[inline(always)]
+                fn copy_from(words: &mut [$word], row: Row, source: &[$word], from: Row) -> u64 {
+                    let (pointer, lent) = (words.as_mut_ptr(), words.len());
+                    done(two!(calls::copy_from, pointer, lent, row, source.as_ptr(), source.len(), from))
+                }
+
+                #[inline(always)]
+                fn copy_within(words: &mut [$word], row: Row, start: usize, count: usize, destination: usize) -> u64 {
+                    let (pointer, lent) = (words.as_mut_ptr(), words.len());
+                    done(one!(calls::copy_within, pointer, lent, row, start, count, destination))
+                }
+
+                #[inline(always)]
+                fn boolean(words: &mut [$word], row: Row, right: &[$word], from: Row, operation: u8) -> u64 {
+                    let (pointer, lent) = (words.as_mut_ptr(), words.len());
+                    done(two!(calls::boolean, pointer, lent, row, right.as_ptr(), right.len(), from, operation))
+                }
+
+                #[inline(always)]
+                fn swap(words: &mut [$word], row: Row, right: &mut [$word], from: Row) -> u64 {
+                    let (pointer, lent) = (words.as_mut_ptr(), words.len());
+                    done(two!(calls::swap, pointer, lent, row, right.as_mut_ptr(), right.len(), from))
+                }
+
+                #[inline(always)]
+                fn equal(words: &[$word], row: Row, right: &[$word], from: Row) -> u64 {
+                    let (mut out, pointer, lent) = (0, words.as_ptr(), words.len());
+                    let code = two!(calls::equal, pointer, lent, row, right.as_ptr(), right.len(), from, &mut out);
+                    out as u64 | done(code)
+                }
+
+                #[inline(always)]
+                fn search(call: Call, words: &[$word], row: Row) -> u64 {
+                    let (mut found, mut at, pointer, lent) = (0, 0, words.as_ptr(), words.len());
+                    let code = match call {
+                        Call::FirstOne => one!(calls::first_one, pointer, lent, row, &mut found, &mut at),
+                        Call::LastOne => one!(calls::last_one, pointer, lent, row, &mut found, &mut at),
+                        Call::FirstZero => one!(calls::first_zero, pointer, lent, row, &mut found, &mut at),
+                        _ => one!(calls::last_zero, pointer, lent, row, &mut found, &mut at),
+                    };
+                    (if found == 1 { at as u64 } else { ABSENT }) | done(code)
+                }
+            }
+        };
+    };
+}
+
+calls!(Library, u8, exported::w8);
+calls!(Library, u64, exported::w64);
+calls!(PlainRust, u8, plain::w8);
+calls!(PlainRust, u64, plain::w64);

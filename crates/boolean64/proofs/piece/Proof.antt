@@ -1,0 +1,39 @@
+-- `boolean64::piece` puts the operation's word: its bits are those of the pairs.
+use mathlib.Core.Path.{refl}
+use Prim.Native.Nat.{_+_, _%_}
+use native.Mathlib.Omega.{arith}
+use lib.Dec.{lit<}
+use borrow.Author.Needs.{needs}
+use denote.Ref.{now}
+use Rattle.rules.specs.Bits.{bitN}
+use Rattle.rules.specs.Positions.{position}
+use Rattle.rules.proofs.Combine.{piece-combined}
+use Rattle.boolean64.proofs.piece.Statement.{statement}
+use Rattle.boolean64.proofs.piece.Tie as tie
+
+mul-apply : tie.Need-mul-apply
+mul-apply c = search needs
+
+slice-read-apply : tie.Need-slice-read-apply
+slice-read-apply c = search needs
+
+apply-requires : tie.Need-apply-requires
+apply-requires c κs = search needs
+
+put-requires : tie.Need-put-requires
+put-requires c κs = search needs
+
+same-length : tie.Need-same-length
+same-length c = search needs
+
+returns : tie.Need-returns
+returns c =
+    let at-put = c .before .before in
+    let at-apply = at-put .before .before in
+    let a = at-apply .before .before .before .args in
+    piece-combined 64 (lit< tt) (a .order) (now (a .words)) (a .d) (a .operation) (λ i. bitN (a .v) (position 64 (a .order) (a .d % 64 + i))) (a .n) (a .v) (at-apply .apply .result) (omega arith)
+    (at-apply .apply .ensures) (λ i l. refl) (at-put .put .ensures)
+
+pub piece-spec : {M : Type 1} → statement M
+piece-spec =
+    tie.close (tie.spec mul-apply slice-read-apply apply-requires put-requires same-length returns)

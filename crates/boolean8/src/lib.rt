@@ -1,0 +1,290 @@
+// Boolean operations on rows of words of 8 bits. An operation is its truth table's number: bit 2a + b is the result for left bit a and right bit b.
+use checks::check_pair;
+use rules::Order;
+use rules::Span;
+use rules::Verdict;
+use rules::Width;
+use rules::WriteAnswer;
+use word8::fetch;
+use word8::joined;
+use word8::lead;
+use word8::least;
+use word8::put;
+use word8::select;
+ghost use mathlib.Core.Path.{_≡_};
+ghost use Prim.Native.Nat.{ℕ, _+_, _-_, _*_, _/_, _%_, _≤_, _<_};
+ghost use lib.ListN.{length, getD};
+ghost use Rattle.rules.specs.Bits.{bitN};
+ghost use Rattle.rules.specs.Positions.{position, row, spliced};
+ghost use Rattle.rules.specs.Rows.{applied};
+ghost use Rattle.rules.specs.Calls.{combine, answer, after};
+ghost use Rattle.rules.specs.Answers.{writeSays, Gives};
+ghost use Rattle.rules.proofs.Funnel.{funneled};
+ghost use Rattle.rules.proofs.Combine.{wordwise, spreadOf};
+
+// All ones where bit k of the operation's number is one, else all zeros.
+fn spread(operation: u8, k: u8) -> u8
+    requires { ⌜ k < 8 ⌝ }
+    ensures { λ r. ⌜ r ≡ spreadOf 8 (bitN operation k) ⌝ }
+{
+    let bit = (operation >> k) % 2;
+    let ones = 0xffu8;
+    if bit == 0 { 0 } else { ones }
+}
+
+// Any operation on two words, by its truth table.
+fn table(operation: u8, a: u8, b: u8) -> u8
+    ensures { λ r. ⌜ r ≡ wordwise 8 operation a b ⌝ }
+{
+    let t0 = spread(operation, 0);
+    let t1 = spread(operation, 1);
+    let t2 = spread(operation, 2);
+    let t3 = spread(operation, 3);
+    let low = select(b, t0, t1);
+    let high = select(b, t2, t3);
+    select(a, low, high)
+}
+
+// The operation on two words: and, or, xor, and by the truth table any other.
+fn apply(operation: u8, a: u8, b: u8) -> u8
+    ensures { λ r. ⌜ r ≡ wordwise 8 operation a b ⌝ }
+{
+    match operation {
+        8 => a & b,
+        14 => a | b,
+        6 => a ^ b,
+        _ => table(operation, a, b),
+    }
+}
+
+// Whole words with those of the right side as they stand.
+fn plain_words(words: &mut [u8], operation: u8, right: &[u8])
+    requires { ⌜ length (now words) ≤ length (now right) ⌝ }
+    ensures { λ _. ⌜ ((k : ℕ) → k < length (now (words .entry)) → getD (now (words .exit)) k 0 ≡ wordwise 8 operation (getD (now (words .entry)) k 0) (getD (now (right .entry)) k 0)) ⌝ }
+{
+    let mut i: usize = 0;
+    while i < words.len() {
+        words[i] = apply(operation, words[i], right[i]);
+        i = i + 1;
+    }
+}
+
+// The same, with a loop of its own for each of and, or and xor.
+fn plain_cases(words: &mut [u8], operation: u8, right: &[u8])
+    requires { ⌜ length (now words) ≤ length (now right) ⌝ }
+    ensures { λ _. ⌜ ((k : ℕ) → k < length (now (words .entry)) → getD (now (words .exit)) k 0 ≡ wordwise 8 operation (getD (now (words .entry)) k 0) (getD (now (right .entry)) k 0)) ⌝ }
+{
+    match operation {
+        8 => {
+            plain_words(words, 8, right);
+        }
+        14 => {
+            plain_words(words, 14, right);
+        }
+        6 => {
+            plain_words(words, 6, right);
+        }
+        _ => {
+            plain_words(words, operation, right);
+        }
+    }
+}
+
+// Whole words with those of the right side at head h.
+fn funnel_words(words: &mut [u8], order: Order, operation: u8, right: &[u8], h: usize)
+    requires { ⌜ (1 ≤ h) × (h < 8) × (length (now words) + 1 ≤ length (now right)) ⌝ }
+    ensures { λ _. ⌜ ((k : ℕ) → k < length (now (words .entry)) → getD (now (words .exit)) k 0 ≡ wordwise 8 operation (getD (now (words .entry)) k 0) (funneled 8 order h (getD (now (right .entry)) k 0) (getD (now (right .entry)) (k + 1) 0))) ⌝ }
+{
+    let mut i: usize = 0;
+    while i < words.len() {
+        let v = joined(order, h, right[i], right[i + 1]);
+        words[i] = apply(operation, words[i], v);
+        i = i + 1;
+    }
+}
+
+// The same, with a loop of its own for each of and, or and xor.
+fn funnel_cases(words: &mut [u8], order: Order, operation: u8, right: &[u8], h: usize)
+    requires { ⌜ (1 ≤ h) × (h < 8) × (length (now words) + 1 ≤ length (now right)) ⌝ }
+    ensures { λ _. ⌜ ((k : ℕ) → k < length (now (words .entry)) → getD (now (words .exit)) k 0 ≡ wordwise 8 operation (getD (now (words .entry)) k 0) (funneled 8 order h (getD (now (right .entry)) k 0) (getD (now (right .entry)) (k + 1) 0))) ⌝ }
+{
+    match operation {
+        8 => {
+            funnel_words(words, order, 8, right, h);
+        }
+        14 => {
+            funnel_words(words, order, 14, right, h);
+        }
+        6 => {
+            funnel_words(words, order, 6, right, h);
+        }
+        _ => {
+            funnel_words(words, order, operation, right, h);
+        }
+    }
+}
+
+// Whole words where the right side has ended.
+fn rest_words(words: &mut [u8], operation: u8)
+    ensures { λ _. ⌜ ((k : ℕ) → k < length (now (words .entry)) → getD (now (words .exit)) k 0 ≡ wordwise 8 operation (getD (now (words .entry)) k 0) 0) ⌝ }
+{
+    let mut i: usize = 0;
+    while i < words.len() {
+        words[i] = apply(operation, words[i], 0);
+        i = i + 1;
+    }
+}
+
+// k whole words from place d on, lent on as a part.
+fn whole_words(
+    words: &mut [u8],
+    order: Order,
+    d: usize,
+    k: usize,
+    operation: u8,
+    right: &[u8],
+    s: usize,
+)
+    requires { ⌜ (1 ≤ k → d % 8 ≡ 0) × (d + k * 8 ≤ length (now words) * 8) × (s + k * 8 ≤ length (now right) * 8) × (length (now right) ≤ 65536) ⌝ }
+    ensures { λ _. ⌜ now (words .exit) ≡ spliced 8 order (now (words .entry)) d (k * 8) (λ i. applied operation (row 8 order (now (words .entry)) (d + i)) (row 8 order (now (right .entry)) (s + i))) ⌝ }
+{
+    if k == 0 {
+        return;
+    }
+    let a = d / 8;
+    let e = a + k;
+    let b = s / 8;
+    let h = s % 8;
+    if h == 0 {
+        let f = b + k;
+        plain_cases(&mut words[a..e], operation, &right[b..f]);
+        return;
+    }
+    let f = b + k + 1;
+    funnel_cases(&mut words[a..e], order, operation, &right[b..f], h);
+}
+
+// n bits within one word; v has the right side's bits at the same indexes.
+fn piece(words: &mut [u8], order: Order, d: usize, n: usize, operation: u8, v: u8)
+    requires { ⌜ (1 ≤ n) × (d % 8 + n ≤ 8) × (d + n ≤ length (now words) * 8) ⌝ }
+    ensures { λ _. ⌜ now (words .exit) ≡ spliced 8 order (now (words .entry)) d n (λ i. applied operation (row 8 order (now (words .entry)) (d + i)) (bitN v (position 8 order (d % 8 + i)))) ⌝ }
+{
+    let word = d / 8;
+    let x = apply(operation, words[word], v);
+    put(words, order, d, n, x);
+}
+
+// n bits within one word, with those of the right side.
+fn some_piece(
+    words: &mut [u8],
+    order: Order,
+    d: usize,
+    n: usize,
+    operation: u8,
+    right: &[u8],
+    s: usize,
+)
+    requires { ⌜ (d % 8 + n ≤ 8) × (d + n ≤ length (now words) * 8) × (s + n ≤ length (now right) * 8) ⌝ }
+    ensures { λ _. ⌜ now (words .exit) ≡ spliced 8 order (now (words .entry)) d n (λ i. applied operation (row 8 order (now (words .entry)) (d + i)) (row 8 order (now (right .entry)) (s + i))) ⌝ }
+{
+    if n == 0 {
+        return;
+    }
+    let v = fetch(right, order, s, d % 8, n);
+    piece(words, order, d, n, operation, v);
+}
+
+// len bits with as many of the right side.
+fn between(
+    words: &mut [u8],
+    order: Order,
+    d: usize,
+    len: usize,
+    operation: u8,
+    right: &[u8],
+    s: usize,
+)
+    requires { ⌜ (d + len ≤ length (now words) * 8) × (s + len ≤ length (now right) * 8) × (length (now words) ≤ 65536) × (length (now right) ≤ 65536) ⌝ }
+    ensures { λ _. ⌜ now (words .exit) ≡ spliced 8 order (now (words .entry)) d len (λ i. applied operation (row 8 order (now (words .entry)) (d + i)) (row 8 order (now (right .entry)) (s + i))) ⌝ }
+{
+    let first = lead(d, len);
+    some_piece(words, order, d, first, operation, right, s);
+    let k = (len - first) / 8;
+    whole_words(words, order, d + first, k, operation, right, s + first);
+    let most = first + k * 8;
+    some_piece(
+        words,
+        order,
+        d + most,
+        len - most,
+        operation,
+        right,
+        s + most,
+    );
+}
+
+// n bits within one word where the right side has ended.
+fn none_piece(words: &mut [u8], order: Order, d: usize, n: usize, operation: u8)
+    requires { ⌜ (d % 8 + n ≤ 8) × (d + n ≤ length (now words) * 8) ⌝ }
+    ensures { λ _. ⌜ now (words .exit) ≡ spliced 8 order (now (words .entry)) d n (λ i. applied operation (row 8 order (now (words .entry)) (d + i)) 0) ⌝ }
+{
+    if n == 0 {
+        return;
+    }
+    piece(words, order, d, n, operation, 0);
+}
+
+// k whole words from place d on where the right side has ended.
+fn rest_whole(words: &mut [u8], order: Order, d: usize, k: usize, operation: u8)
+    requires { ⌜ (1 ≤ k → d % 8 ≡ 0) × (d + k * 8 ≤ length (now words) * 8) ⌝ }
+    ensures { λ _. ⌜ now (words .exit) ≡ spliced 8 order (now (words .entry)) d (k * 8) (λ i. applied operation (row 8 order (now (words .entry)) (d + i)) 0) ⌝ }
+{
+    if k == 0 {
+        return;
+    }
+    let a = d / 8;
+    let e = a + k;
+    rest_words(&mut words[a..e], operation);
+}
+
+// len bits where the right side has ended.
+fn rest(words: &mut [u8], order: Order, d: usize, len: usize, operation: u8)
+    requires { ⌜ (d + len ≤ length (now words) * 8) × (length (now words) ≤ 65536) ⌝ }
+    ensures { λ _. ⌜ now (words .exit) ≡ spliced 8 order (now (words .entry)) d len (λ i. applied operation (row 8 order (now (words .entry)) (d + i)) 0) ⌝ }
+{
+    if len == 0 {
+        return;
+    }
+    let first = lead(d, len);
+    none_piece(words, order, d, first, operation);
+    let k = (len - first) / 8;
+    rest_whole(words, order, d + first, k, operation);
+    let most = first + k * 8;
+    none_piece(words, order, d + most, len - most, operation);
+}
+
+// The operation into the left span; right bits past its end count as false: 1 to 3 of the left, 1 to 3 of the right, 6.
+pub fn boolean(
+    words: &mut [u8],
+    span: Span,
+    right: &[u8],
+    right_span: Span,
+    operation: u8,
+) -> WriteAnswer
+    ensures { λ r. ⌜ Gives (answer 8 (combine operation span (now (right .entry)) «right_span») (now (words .entry))) (after 8 (combine operation span (now (right .entry)) «right_span») (now (words .entry))) (writeSays r) (now (words .exit)) ⌝ }
+{
+    let verdict = check_pair(Width::W8, words.len(), span, right.len(), right_span);
+    match verdict {
+        Verdict::Refused(no) => WriteAnswer::Refused(no),
+        Verdict::Fine => {
+            let order = span.order;
+            let len = span.len;
+            let d = span.word * 8 + span.head.0;
+            let s = right_span.word * 8 + right_span.head.0;
+            let m = least(len, right_span.len);
+            between(words, order, d, m, operation, right, s);
+            rest(words, order, d + m, len - m, operation);
+            WriteAnswer::Done
+        }
+    }
+}

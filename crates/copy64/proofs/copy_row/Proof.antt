@@ -1,0 +1,90 @@
+-- `copy64::copy_row` is three splices, each of which goes on where the one before stopped.
+use mathlib.Core.Path.{refl, ap}
+use Prim.Native.Nat.{ℕ, _+_, _-_, _*_, _/_}
+use native.Mathlib.Nat.{add-assoc}
+use native.Mathlib.Omega.{arith}
+use lib.Dec.{lit<}
+use borrow.Author.Needs.{needs}
+use denote.Ref.{now}
+use Rattle.rules.specs.Positions.{row}
+use Rattle.rules.proofs.RowPieces.{grown, last-fits}
+use Rattle.copy64.proofs.copy_row.Statement.{statement}
+use Rattle.copy64.proofs.copy_row.Tie as tie
+
+lead-requires : tie.Need-lead-requires
+lead-requires c κs = search needs
+
+piece-requires : tie.Need-piece-requires
+piece-requires c κs = search needs
+
+sub-k : tie.Need-sub-k
+sub-k c = search needs
+
+add-whole : tie.Need-add-whole
+add-whole c = search needs
+
+add-whole-2 : tie.Need-add-whole-2
+add-whole-2 c = search needs
+
+whole-requires : tie.Need-whole-requires
+whole-requires c κs =
+    let at-lead = c .before .before .before .before .before in
+    ((λ h. at-lead .lead .ensures .2 (omega arith)), omega arith, omega arith, omega arith)
+
+mul-most : tie.Need-mul-most
+mul-most c = search needs
+
+add-most : tie.Need-add-most
+add-most c = search needs
+
+add-piece : tie.Need-add-piece
+add-piece c = search needs
+
+add-piece-2 : tie.Need-add-piece-2
+add-piece-2 c = search needs
+
+sub-piece : tie.Need-sub-piece
+sub-piece c = search needs
+
+piece-requires-2 : tie.Need-piece-requires-2
+piece-requires-2 c κs =
+    let at-lead = c .before .before .before .before .before .before .before .before .before in
+    let a = at-lead .before .before .before .args in
+    (last-fits 64 (lit< tt) (a .d) (at-lead .lead .result) (a .len) (at-lead .lead .ensures .2) (omega arith), omega arith, omega arith)
+
+same-length : tie.Need-same-length
+same-length c = search needs
+
+returns : tie.Need-returns
+returns c =
+    let third = c .before .before in
+    let second = third .before .before .before .before in
+    let one = second .before .before .before .before in
+    let at-lead = one .before .before in
+    let a = at-lead .before .before .before .args in
+    let r = at-lead .lead .result in
+    let k = (a .len - r) / 64 in
+    let from : ℕ → ℕ = λ i. row 64 (a .order) (now (a .source)) (a .s + i) in
+    grown 64 (lit< tt) (a .order) (now (a .words)) (a .d) from (r + k * 64) (a .len - (r + k * 64)) (a .len) (λ j. row 64 (a .order) (now (a .source)) (a .s + (r + k * 64) + j)) (omega arith)
+    (grown 64 (lit< tt) (a .order) (now (a .words)) (a .d) from r (k * 64) (r + k * 64) (λ j. row 64 (a .order) (now (a .source)) (a .s + r + j)) refl (one .piece .ensures) (second .whole .ensures)
+    (λ j l. ap (row 64 (a .order) (now (a .source))) (add-assoc (a .s) r j)))
+    (third .piece2 .ensures) (λ j l. ap (row 64 (a .order) (now (a .source))) (add-assoc (a .s) (r + k * 64) j))
+
+pub copy-row-spec : {M : Type 1} → statement M
+copy-row-spec =
+    tie.close
+    (tie.spec
+    lead-requires
+    piece-requires
+    sub-k
+    add-whole
+    add-whole-2
+    whole-requires
+    mul-most
+    add-most
+    add-piece
+    add-piece-2
+    sub-piece
+    piece-requires-2
+    same-length
+    returns)

@@ -1,0 +1,105 @@
+// Copy between two buffers of words of 64 bits: a first piece up to a word's start of the target, whole words, a last piece.
+use checks::check_copy;
+use rules::Order;
+use rules::Span;
+use rules::Verdict;
+use rules::Width;
+use rules::WriteAnswer;
+use word64::fetch;
+use word64::joined;
+use word64::lead;
+use word64::put;
+ghost use mathlib.Core.Path.{_≡_};
+ghost use Prim.Native.Nat.{ℕ, _+_, _*_, _%_, _≤_, _<_};
+ghost use lib.ListN.{length, getD};
+ghost use Rattle.rules.specs.Positions.{row, spliced};
+ghost use Rattle.rules.specs.Calls.{copyBetween, answer, after};
+ghost use Rattle.rules.specs.Answers.{writeSays, Gives};
+ghost use Rattle.rules.proofs.Funnel.{funneled};
+
+// Words as they stand in the source.
+fn plain_words(words: &mut [u64], source: &[u64])
+    requires { ⌜ length (now words) ≤ length (now source) ⌝ }
+    ensures { λ _. ⌜ ((k : ℕ) → k < length (now (words .entry)) → getD (now (words .exit)) k 0 ≡ getD (now (source .entry)) k 0) ⌝ }
+{
+    let mut i: usize = 0;
+    while i < words.len() {
+        words[i] = source[i];
+        i = i + 1;
+    }
+}
+
+// Words from those of the source at head h.
+fn funnel_words(words: &mut [u64], order: Order, source: &[u64], h: usize)
+    requires { ⌜ (1 ≤ h) × (h < 64) × (length (now words) + 1 ≤ length (now source)) ⌝ }
+    ensures { λ _. ⌜ ((k : ℕ) → k < length (now (words .entry)) → getD (now (words .exit)) k 0 ≡ funneled 64 order h (getD (now (source .entry)) k 0) (getD (now (source .entry)) (k + 1) 0)) ⌝ }
+{
+    let mut i: usize = 0;
+    while i < words.len() {
+        words[i] = joined(order, h, source[i], source[i + 1]);
+        i = i + 1;
+    }
+}
+
+// k whole words of the target from place d on, lent on as a part.
+fn whole(words: &mut [u64], order: Order, d: usize, source: &[u64], s: usize, k: usize)
+    requires { ⌜ (1 ≤ k → d % 64 ≡ 0) × (d + k * 64 ≤ length (now words) * 64) × (s + k * 64 ≤ length (now source) * 64) × (length (now source) ≤ 65536) ⌝ }
+    ensures { λ _. ⌜ now (words .exit) ≡ spliced 64 order (now (words .entry)) d (k * 64) (λ i. row 64 order (now (source .entry)) (s + i)) ⌝ }
+{
+    if k == 0 {
+        return;
+    }
+    let a = d / 64;
+    let e = a + k;
+    let b = s / 64;
+    let h = s % 64;
+    if h == 0 {
+        let f = b + k;
+        plain_words(&mut words[a..e], &source[b..f]);
+        return;
+    }
+    let f = b + k + 1;
+    funnel_words(&mut words[a..e], order, &source[b..f], h);
+}
+
+// n bits within one word of the target.
+fn piece(words: &mut [u64], order: Order, d: usize, source: &[u64], s: usize, n: usize)
+    requires { ⌜ (d % 64 + n ≤ 64) × (d + n ≤ length (now words) * 64) × (s + n ≤ length (now source) * 64) ⌝ }
+    ensures { λ _. ⌜ now (words .exit) ≡ spliced 64 order (now (words .entry)) d n (λ i. row 64 order (now (source .entry)) (s + i)) ⌝ }
+{
+    if n == 0 {
+        return;
+    }
+    let v = fetch(source, order, s, d % 64, n);
+    put(words, order, d, n, v);
+}
+
+// len bits from place s of the source on become those from place d of the target on.
+pub fn copy_row(words: &mut [u64], order: Order, d: usize, source: &[u64], s: usize, len: usize)
+    requires { ⌜ (d + len ≤ length (now words) * 64) × (s + len ≤ length (now source) * 64) × (length (now words) ≤ 65536) × (length (now source) ≤ 65536) ⌝ }
+    ensures { λ _. ⌜ now (words .exit) ≡ spliced 64 order (now (words .entry)) d len (λ i. row 64 order (now (source .entry)) (s + i)) ⌝ }
+{
+    let first = lead(d, len);
+    piece(words, order, d, source, s, first);
+    let k = (len - first) / 64;
+    whole(words, order, d + first, source, s + first, k);
+    let most = first + k * 64;
+    piece(words, order, d + most, source, s + most, len - most);
+}
+
+// Bit i of the target becomes bit i of the source, lengths equal: 1 to 3 of the target, 1 to 3 of the source, 6, 7.
+pub fn copy_from(words: &mut [u64], span: Span, source: &[u64], source_span: Span) -> WriteAnswer
+    ensures { λ r. ⌜ Gives (answer 64 (copyBetween span (now (source .entry)) «source_span») (now (words .entry))) (after 64 (copyBetween span (now (source .entry)) «source_span») (now (words .entry))) (writeSays r) (now (words .exit)) ⌝ }
+{
+    let verdict = check_copy(Width::W64, words.len(), span, source.len(), source_span);
+    match verdict {
+        Verdict::Refused(no) => WriteAnswer::Refused(no),
+        Verdict::Fine => {
+            let order = span.order;
+            let d = span.word * 64 + span.head.0;
+            let s = source_span.word * 64 + source_span.head.0;
+            copy_row(words, order, d, source, s, span.len);
+            WriteAnswer::Done
+        }
+    }
+}

@@ -1,0 +1,105 @@
+// Copy between two buffers of words of 8 bits: a first piece up to a word's start of the target, whole words, a last piece.
+use checks::check_copy;
+use rules::Order;
+use rules::Span;
+use rules::Verdict;
+use rules::Width;
+use rules::WriteAnswer;
+use word8::fetch;
+use word8::joined;
+use word8::lead;
+use word8::put;
+ghost use mathlib.Core.Path.{_≡_};
+ghost use Prim.Native.Nat.{ℕ, _+_, _*_, _%_, _≤_, _<_};
+ghost use lib.ListN.{length, getD};
+ghost use Rattle.rules.specs.Positions.{row, spliced};
+ghost use Rattle.rules.specs.Calls.{copyBetween, answer, after};
+ghost use Rattle.rules.specs.Answers.{writeSays, Gives};
+ghost use Rattle.rules.proofs.Funnel.{funneled};
+
+// Words as they stand in the source.
+fn plain_words(words: &mut [u8], source: &[u8])
+    requires { ⌜ length (now words) ≤ length (now source) ⌝ }
+    ensures { λ _. ⌜ ((k : ℕ) → k < length (now (words .entry)) → getD (now (words .exit)) k 0 ≡ getD (now (source .entry)) k 0) ⌝ }
+{
+    let mut i: usize = 0;
+    while i < words.len() {
+        words[i] = source[i];
+        i = i + 1;
+    }
+}
+
+// Words from those of the source at head h.
+fn funnel_words(words: &mut [u8], order: Order, source: &[u8], h: usize)
+    requires { ⌜ (1 ≤ h) × (h < 8) × (length (now words) + 1 ≤ length (now source)) ⌝ }
+    ensures { λ _. ⌜ ((k : ℕ) → k < length (now (words .entry)) → getD (now (words .exit)) k 0 ≡ funneled 8 order h (getD (now (source .entry)) k 0) (getD (now (source .entry)) (k + 1) 0)) ⌝ }
+{
+    let mut i: usize = 0;
+    while i < words.len() {
+        words[i] = joined(order, h, source[i], source[i + 1]);
+        i = i + 1;
+    }
+}
+
+// k whole words of the target from place d on, lent on as a part.
+fn whole(words: &mut [u8], order: Order, d: usize, source: &[u8], s: usize, k: usize)
+    requires { ⌜ (1 ≤ k → d % 8 ≡ 0) × (d + k * 8 ≤ length (now words) * 8) × (s + k * 8 ≤ length (now source) * 8) × (length (now source) ≤ 65536) ⌝ }
+    ensures { λ _. ⌜ now (words .exit) ≡ spliced 8 order (now (words .entry)) d (k * 8) (λ i. row 8 order (now (source .entry)) (s + i)) ⌝ }
+{
+    if k == 0 {
+        return;
+    }
+    let a = d / 8;
+    let e = a + k;
+    let b = s / 8;
+    let h = s % 8;
+    if h == 0 {
+        let f = b + k;
+        plain_words(&mut words[a..e], &source[b..f]);
+        return;
+    }
+    let f = b + k + 1;
+    funnel_words(&mut words[a..e], order, &source[b..f], h);
+}
+
+// n bits within one word of the target.
+fn piece(words: &mut [u8], order: Order, d: usize, source: &[u8], s: usize, n: usize)
+    requires { ⌜ (d % 8 + n ≤ 8) × (d + n ≤ length (now words) * 8) × (s + n ≤ length (now source) * 8) ⌝ }
+    ensures { λ _. ⌜ now (words .exit) ≡ spliced 8 order (now (words .entry)) d n (λ i. row 8 order (now (source .entry)) (s + i)) ⌝ }
+{
+    if n == 0 {
+        return;
+    }
+    let v = fetch(source, order, s, d % 8, n);
+    put(words, order, d, n, v);
+}
+
+// len bits from place s of the source on become those from place d of the target on.
+pub fn copy_row(words: &mut [u8], order: Order, d: usize, source: &[u8], s: usize, len: usize)
+    requires { ⌜ (d + len ≤ length (now words) * 8) × (s + len ≤ length (now source) * 8) × (length (now words) ≤ 65536) × (length (now source) ≤ 65536) ⌝ }
+    ensures { λ _. ⌜ now (words .exit) ≡ spliced 8 order (now (words .entry)) d len (λ i. row 8 order (now (source .entry)) (s + i)) ⌝ }
+{
+    let first = lead(d, len);
+    piece(words, order, d, source, s, first);
+    let k = (len - first) / 8;
+    whole(words, order, d + first, source, s + first, k);
+    let most = first + k * 8;
+    piece(words, order, d + most, source, s + most, len - most);
+}
+
+// Bit i of the target becomes bit i of the source, lengths equal: 1 to 3 of the target, 1 to 3 of the source, 6, 7.
+pub fn copy_from(words: &mut [u8], span: Span, source: &[u8], source_span: Span) -> WriteAnswer
+    ensures { λ r. ⌜ Gives (answer 8 (copyBetween span (now (source .entry)) «source_span») (now (words .entry))) (after 8 (copyBetween span (now (source .entry)) «source_span») (now (words .entry))) (writeSays r) (now (words .exit)) ⌝ }
+{
+    let verdict = check_copy(Width::W8, words.len(), span, source.len(), source_span);
+    match verdict {
+        Verdict::Refused(no) => WriteAnswer::Refused(no),
+        Verdict::Fine => {
+            let order = span.order;
+            let d = span.word * 8 + span.head.0;
+            let s = source_span.word * 8 + source_span.head.0;
+            copy_row(words, order, d, source, s, span.len);
+            WriteAnswer::Done
+        }
+    }
+}

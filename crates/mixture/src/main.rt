@@ -1,0 +1,168 @@
+// Two parties in one byte: a mixture of their calls, and each party's calls alone. The first has positions 0 to 3 and works in Lsb0, the second
+// positions 4 to 7 and works in Msb0. Each party gets the same answers and the same half of the byte in both runs.
+use requests::Request;
+use requests::Side;
+use rules::Index;
+use rules::Number;
+use rules::Operation;
+use rules::Order;
+use rules::Sign;
+use rules::Significance;
+use rules::Span;
+
+fn low() -> Span {
+    Span {
+        order: Order::Lsb0,
+        word: 0,
+        head: Index(0),
+        len: 4,
+    }
+}
+
+fn high() -> Span {
+    Span {
+        order: Order::Msb0,
+        word: 0,
+        head: Index(0),
+        len: 4,
+    }
+}
+
+// A span whose head is W: every call on it is refused.
+fn beyond() -> Span {
+    Span {
+        order: Order::Msb0,
+        word: 0,
+        head: Index(8),
+        len: 1,
+    }
+}
+
+// Performs a request and prints what it answers.
+fn step(name: &[u8], words: &mut [u8], request: Request) {
+    let other = [0x0Fu8];
+    show::text(name);
+    show::reply(perform8::perform(words, &other, request));
+    show::end();
+}
+
+fn store_nine(words: &mut [u8]) {
+    step(
+        b"first   store 9                   | ",
+        words,
+        Request::Store(low(), 8, Significance::Le, Sign::Unsigned, Number::Up(9)),
+    );
+}
+
+fn store_sixteen(words: &mut [u8]) {
+    step(
+        b"first   store 16 strictly         | ",
+        words,
+        Request::StoreStrict(low(), 8, Significance::Le, Sign::Unsigned, Number::Up(16)),
+    );
+}
+
+fn load_low(words: &mut [u8]) {
+    step(
+        b"first   load                      | ",
+        words,
+        Request::Load(low(), 8, Significance::Le, Sign::Unsigned),
+    );
+}
+
+fn turn_low(words: &mut [u8]) {
+    step(
+        b"first   xor with four ones        | ",
+        words,
+        Request::Boolean(low(), low(), Operation::Xor.number()),
+    );
+}
+
+fn find_zero(words: &mut [u8]) {
+    step(
+        b"second  first zero                | ",
+        words,
+        Request::First(false, high()),
+    );
+}
+
+fn move_two(words: &mut [u8]) {
+    step(
+        b"second  copy 2 bits from 0 to 1   | ",
+        words,
+        Request::CopyWithin(high(), 0, 2, 1),
+    );
+}
+
+fn load_high(words: &mut [u8]) {
+    step(
+        b"second  load                      | ",
+        words,
+        Request::Load(high(), 8, Significance::Be, Sign::Unsigned),
+    );
+}
+
+fn read_beyond(words: &mut [u8]) {
+    step(
+        b"second  read a bit at head 8      | ",
+        words,
+        Request::ReadBit(beyond(), 0),
+    );
+}
+
+fn compare_high(words: &mut [u8]) {
+    step(
+        b"second  compare with itself       | ",
+        words,
+        Request::Equal(Side::Here, high(), Side::Here, high()),
+    );
+}
+
+fn mixed(words: &mut [u8]) {
+    store_nine(words);
+    find_zero(words);
+    move_two(words);
+    store_sixteen(words);
+    load_high(words);
+    load_low(words);
+    read_beyond(words);
+    compare_high(words);
+    turn_low(words);
+}
+
+fn first_alone(words: &mut [u8]) {
+    store_nine(words);
+    store_sixteen(words);
+    load_low(words);
+    turn_low(words);
+}
+
+fn second_alone(words: &mut [u8]) {
+    find_zero(words);
+    move_two(words);
+    load_high(words);
+    read_beyond(words);
+    compare_high(words);
+}
+
+fn left_with(word: u8) {
+    show::text(b"the byte                          | ");
+    show::hex(word as u64);
+    show::end();
+    show::end();
+}
+
+fn main() {
+    show::text(b"both, on B4\n");
+    let mut both = [0xB4u8];
+    mixed(&mut both);
+    left_with(both[0]);
+    show::text(b"the first alone, on B4\n");
+    let mut one = [0xB4u8];
+    first_alone(&mut one);
+    left_with(one[0]);
+    show::text(b"the second alone, on B4\n");
+    let mut two = [0xB4u8];
+    second_alone(&mut two);
+    left_with(two[0]);
+}

@@ -1,0 +1,88 @@
+-- `word64::fetch` brings bits of a row to other indexes: from the first word moved up, from one word moved down, or from two joined.
+use native.Mathlib.Omega.{arith}
+use lib.Dec.{lit<}
+use borrow.Author.Needs.{needs}
+use denote.Ref.{now}
+use Rattle.rules.proofs.Moves.{fetch-up, fetch-down, fetch-over}
+use Rattle.word64.proofs.fetch.Statement.{statement}
+use Rattle.word64.proofs.fetch.Tie as tie
+
+shared-slice-read-up : tie.Need-shared-slice-read-up
+shared-slice-read-up c = search needs
+
+sub-up : tie.Need-sub-up
+sub-up c = search needs
+
+up-requires : tie.Need-up-requires
+up-requires c κs = search needs
+
+returns : tie.Need-returns
+returns c =
+    let a = c .before .before .before .before .args in
+    fetch-up 64 (a .order) (now (a .source)) (a .s) (a .h) (a .n) (omega arith) (omega arith) (c .up .ensures)
+
+add-if2 : tie.Need-add-if2
+add-if2 c = search needs
+
+add-if2-2 : tie.Need-add-if2-2
+add-if2-2 c = search needs
+
+mul-down : tie.Need-mul-down
+mul-down c = search needs
+
+shared-slice-read-down : tie.Need-shared-slice-read-down
+shared-slice-read-down c = search needs
+
+down-requires : tie.Need-down-requires
+down-requires c κs = search needs
+
+returns-2 : tie.Need-returns-2
+returns-2 c =
+    let a = c .before .before .before .before .before .args in
+    fetch-down 64 (a .order) (now (a .source)) (a .s) (a .h) (a .n) (omega arith) (omega arith) (omega arith) (c .down .ensures)
+
+mul-joined : tie.Need-mul-joined
+mul-joined c = search needs
+
+shared-slice-read-joined : tie.Need-shared-slice-read-joined
+shared-slice-read-joined c = search needs
+
+add-joined : tie.Need-add-joined
+add-joined c = search needs
+
+mul-joined-2 : tie.Need-mul-joined-2
+mul-joined-2 c = search needs
+
+shared-slice-read-joined-2 : tie.Need-shared-slice-read-joined-2
+shared-slice-read-joined-2 c = search needs
+
+joined-requires : tie.Need-joined-requires
+joined-requires c κs = search needs
+
+returns-3 : tie.Need-returns-3
+returns-3 c =
+    let known = c .before in
+    let a = known .before .before .before .before .before .args in
+    fetch-over 64 (a .order) (now (a .source)) (a .s) (a .h) (a .n) (omega arith) (omega arith) (lit< tt) (λ k. known .shared-slice-known5 .given k .fits) (c .joined .ensures)
+
+pub fetch-spec : {M : Type 1} → statement M
+fetch-spec =
+    tie.close
+    (tie.spec
+    shared-slice-read-up
+    sub-up
+    up-requires
+    returns
+    add-if2
+    add-if2-2
+    mul-down
+    shared-slice-read-down
+    down-requires
+    returns-2
+    mul-joined
+    shared-slice-read-joined
+    add-joined
+    mul-joined-2
+    shared-slice-read-joined-2
+    joined-requires
+    returns-3)

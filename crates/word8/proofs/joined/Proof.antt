@@ -1,0 +1,66 @@
+-- `word8::joined` is the funnel of two words, in either order.
+use borrow.Author.Needs.{needs}
+use Rattle.rules.proofs.Moves.{joined-lsb0, joined-msb0}
+use Rattle.word8.proofs.joined.Statement.{statement}
+use Rattle.word8.proofs.joined.Tie as tie
+
+enum-told : tie.Need-enum-told
+enum-told c = search needs
+
+cast-result : tie.Need-cast-result
+cast-result c = search needs
+
+shr-result : tie.Need-shr-result
+shr-result c = search needs
+
+sub-result : tie.Need-sub-result
+sub-result c = search needs
+
+cast-result-2 : tie.Need-cast-result-2
+cast-result-2 c = search needs
+
+shl-result : tie.Need-shl-result
+shl-result c = search needs
+
+enum-told-2 : tie.Need-enum-told-2
+enum-told-2 c = search needs
+
+cast-result-3 : tie.Need-cast-result-3
+cast-result-3 c = search needs
+
+shl-result-2 : tie.Need-shl-result-2
+shl-result-2 c = search needs
+
+sub-result-2 : tie.Need-sub-result-2
+sub-result-2 c = search needs
+
+cast-result-4 : tie.Need-cast-result-4
+cast-result-4 c = search needs
+
+shr-result-2 : tie.Need-shr-result-2
+shr-result-2 c = search needs
+
+returns : tie.Need-returns
+returns c = joined-lsb0 8 _ _ _ _ (search needs)
+
+returns-2 : tie.Need-returns-2
+returns-2 c = joined-msb0 8 _ _ _ _ (search needs)
+
+pub joined-spec : {M : Type 1} → statement M
+joined-spec =
+    tie.close
+    (tie.spec
+    enum-told
+    cast-result
+    shr-result
+    sub-result
+    cast-result-2
+    shl-result
+    enum-told-2
+    cast-result-3
+    shl-result-2
+    sub-result-2
+    cast-result-4
+    shr-result-2
+    returns
+    returns-2)

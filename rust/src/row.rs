@@ -1,0 +1,422 @@
+use crate::border;
+use crate::{Integer, IntegerKind, Operation, Order, Refusal, Significance, Span, Word};
+
+/// The calls on a row of bits: a slice of `u8` or of `u64`. No other type can be one.
+///
+/// Each call takes the [`Span`] that it works on; with two spans, each stands beside its row. A call that is accepted changes
+/// the bits that it names and no others; one that is refused changes nothing.
+///
+/// # Errors
+///
+/// Every call first checks the span that it is handed, or the two one after the other:
+/// [`TooManyWords`](Refusal::TooManyWords) (1), [`IndexTooLarge`](Refusal::IndexTooLarge) (2),
+/// [`OutOfBounds`](Refusal::OutOfBounds) (3). What a call is refused for beyond that is listed with it, in its order.
+///
+/// ```
+/// use stableply::{BitRow, Order, Refusal, Span};
+///
+/// let row = vec![0u64; 4]; // a Vec, an array and a slice all have the calls
+/// assert_eq!(row.first_one(row.whole(Order::Lsb0))?, None);
+/// assert_eq!(row.first_one(Span::new(Order::Lsb0, 0, 64, 1)), Err(Refusal::IndexTooLarge));
+/// assert_eq!(row.first_one(Span::new(Order::Lsb0, 3, 63, 2)), Err(Refusal::OutOfBounds));
+/// # Ok::<(), Refusal>(())
+/// ```
+pub trait BitRow: sealed::BitRow {
+    /// The span of all the row's bits.
+    ///
+    /// ```
+    /// use stableply::{BitRow, Order, Span};
+    ///
+    /// assert_eq!([0u8; 3].whole(Order::Msb0), Span::new(Order::Msb0, 0, 0, 24));
+    /// ```
+    fn whole(&self, order: Order) -> Span;
+
+    /// Bit `index` of the span.
+    ///
+    /// # Errors
+    ///
+    /// 1 to 3 for the span; [`NotBelow`](Refusal::NotBelow) (10) where `index` is not below its length.
+    ///
+    /// ```
+    /// use stableply::{BitRow, Order, Refusal, Span};
+    ///
+    /// let row = [0xB4u8, 0x6C]; // 1011_0100 0110_1100
+    /// let span = Span::new(Order::Msb0, 0, 6, 4); // 00 01
+    /// assert!(!row.read_bit(span, 0)?);
+    /// assert!(row.read_bit(span, 3)?);
+    /// assert_eq!(row.read_bit(span, 4), Err(Refusal::NotBelow));
+    /// # Ok::<(), Refusal>(())
+    /// ```
+    fn read_bit(&self, span: Span, index: usize) -> Result<bool, Refusal>;
+
+    /// Sets bit `index` of the span to `bit`.
+    ///
+    /// # Errors
+    ///
+    /// 1 to 3 for the span; [`NotBelow`](Refusal::NotBelow) (10) where `index` is not below its length.
+    ///
+    /// ```
+    /// use stableply::{BitRow, Order, Span};
+    ///
+    /// let mut row = [0u8; 2];
+    /// row.write_bit(Span::new(Order::Lsb0, 0, 6, 4), 3, true)?;
+    /// assert_eq!(row, [0, 0b10]);
+    /// # Ok::<(), stableply::Refusal>(())
+    /// ```
+    fn write_bit(&mut self, span: Span, index: usize, bit: bool) -> Result<(), Refusal>;
+
+    /// The number that a field holds, as a Rust integer; a signed one with the field's top bit as its sign.
+    ///
+    /// # Errors
+    ///
+    /// 1 to 3 for the span; [`FieldLength`](Refusal::FieldLength) (5) where the span has no bits, or more than the type.
+    ///
+    /// ```
+    /// use stableply::{BitRow, Order, Significance, Span};
+    ///
+    /// let row = [0xB4u8, 0x6C, 0xF1];
+    /// let span = Span::new(Order::Lsb0, 0, 4, 8);
+    /// assert_eq!(row.load::<u16>(span, Significance::Le)?, 0xCB);
+    /// assert_eq!(row.load::<u16>(span, Significance::Be)?, 0xBC);
+    /// assert_eq!(row.load::<i8>(span, Significance::Le)?, -53);
+    /// # Ok::<(), stableply::Refusal>(())
+    /// ```
+    fn load<I: Integer>(&self, span: Span, significance: Significance) -> Result<I, Refusal> {
+        self.load_number(span, significance, I::KIND).map(I::narrowed)
+    }
+
+    /// Stores the low bits of a Rust integer, as many as the field has, so that a load returns them.
+    ///
+    /// # Errors
+    ///
+    /// 1 to 3 for the span; [`FieldLength`](Refusal::FieldLength) (5) where the span has no bits, or more than the type.
+    ///
+    /// ```
+    /// use stableply::{BitRow, Order, Significance, Span};
+    ///
+    /// let mut row = [0u8; 3];
+    /// row.store(Span::new(Order::Lsb0, 0, 4, 8), Significance::Le, 0xCBu8)?;
+    /// assert_eq!(row, [0xB0, 0x0C, 0x00]);
+    /// # Ok::<(), stableply::Refusal>(())
+    /// ```
+    fn store<I: Integer>(&mut self, span: Span, significance: Significance, value: I) -> Result<(), Refusal> {
+        self.store_number(span, significance, I::KIND, value.widened())
+    }
+
+    /// Stores as [`store`](BitRow::store) does, but only a value that fits: an unsigned one is below 2 to the field's length,
+    /// the magnitude of a signed one below 2 to the length - 1.
+    ///
+    /// # Errors
+    ///
+    /// 1 to 3 for the span; [`FieldLength`](Refusal::FieldLength) (5) where the span has no bits, or more than the type;
+    /// [`DoesNotFit`](Refusal::DoesNotFit) (9).
+    ///
+    /// ```
+    /// use stableply::{BitRow, Order, Refusal, Significance, Span};
+    ///
+    /// let mut row = [0u8; 3];
+    /// let span = Span::new(Order::Lsb0, 0, 4, 8);
+    /// row.store_strict(span, Significance::Le, 255u16)?;
+    /// assert_eq!(row.store_strict(span, Significance::Le, 256u16), Err(Refusal::DoesNotFit));
+    /// assert_eq!(row, [0xF0, 0x0F, 0x00]);
+    /// # Ok::<(), Refusal>(())
+    /// ```
+    fn store_strict<I: Integer>(&mut self, span: Span, significance: Significance, value: I) -> Result<(), Refusal> {
+        self.store_number_strict(span, significance, I::KIND, value.widened())
+    }
+
+    /// The number that a field of the kind named holds.
+    ///
+    /// # Errors
+    ///
+    /// 1 to 3 for the span; [`NoSuchK`](Refusal::NoSuchK) (4); [`FieldLength`](Refusal::FieldLength) (5) where the span has no
+    /// bits, or more than K.
+    ///
+    /// ```
+    /// use stableply::{BitRow, IntegerKind, Order, Significance, Span};
+    ///
+    /// let row = [0xB4u8, 0x6C, 0xF1];
+    /// let span = Span::new(Order::Lsb0, 0, 3, 3);
+    /// assert_eq!(row.load_number(span, Significance::Le, IntegerKind::unsigned(8))?, 6);
+    /// assert_eq!(row.load_number(span, Significance::Le, IntegerKind::signed(8))?, -2);
+    /// # Ok::<(), stableply::Refusal>(())
+    /// ```
+    fn load_number(&self, span: Span, significance: Significance, kind: IntegerKind) -> Result<i128, Refusal>;
+
+    /// Stores any whole number that is an integer of the kind named, as [`store`](BitRow::store) does.
+    ///
+    /// # Errors
+    ///
+    /// 1 to 3 for the span; [`NoSuchK`](Refusal::NoSuchK) (4); [`FieldLength`](Refusal::FieldLength) (5) where the span has no
+    /// bits, or more than K; [`NotAnInteger`](Refusal::NotAnInteger) (8) where the number is not a K-bit integer of its sign.
+    ///
+    /// ```
+    /// use stableply::{BitRow, IntegerKind, Order, Refusal, Significance, Span};
+    ///
+    /// let mut row = [0u8; 3];
+    /// let span = Span::new(Order::Lsb0, 0, 4, 8);
+    /// row.store_number(span, Significance::Le, IntegerKind::signed(8), -53)?;
+    /// assert_eq!(row, [0xB0, 0x0C, 0x00]);
+    /// let refused = row.store_number(span, Significance::Le, IntegerKind::unsigned(8), 256);
+    /// assert_eq!(refused, Err(Refusal::NotAnInteger));
+    /// # Ok::<(), Refusal>(())
+    /// ```
+    fn store_number(&mut self, span: Span, significance: Significance, kind: IntegerKind, number: i128) -> Result<(), Refusal>;
+
+    /// Stores as [`store_number`](BitRow::store_number) does, but only a number that fits, as
+    /// [`store_strict`](BitRow::store_strict) says.
+    ///
+    /// # Errors
+    ///
+    /// Those of [`store_number`](BitRow::store_number), then [`DoesNotFit`](Refusal::DoesNotFit) (9).
+    ///
+    /// ```
+    /// use stableply::{BitRow, IntegerKind, Order, Refusal, Significance, Span};
+    ///
+    /// let mut row = [0u8; 3];
+    /// let span = Span::new(Order::Lsb0, 0, 4, 8);
+    /// let refused = row.store_number_strict(span, Significance::Le, IntegerKind::unsigned(16), 256);
+    /// assert_eq!(refused, Err(Refusal::DoesNotFit));
+    /// assert_eq!(row, [0; 3]);
+    /// # Ok::<(), Refusal>(())
+    /// ```
+    fn store_number_strict(
+        &mut self,
+        span: Span,
+        significance: Significance,
+        kind: IntegerKind,
+        number: i128,
+    ) -> Result<(), Refusal>;
+
+    /// Copies from another row: bit i of the span becomes bit i of the source's span.
+    ///
+    /// # Errors
+    ///
+    /// 1 to 3 for the span, then for the source's; [`OrdersDiffer`](Refusal::OrdersDiffer) (6);
+    /// [`LengthsDiffer`](Refusal::LengthsDiffer) (7).
+    ///
+    /// ```
+    /// use stableply::{BitRow, Order, Span};
+    ///
+    /// let mut row = [0u8; 2];
+    /// let source = [0b1011_0100u8];
+    /// row.copy_from(Span::new(Order::Lsb0, 0, 6, 4), &source, Span::new(Order::Lsb0, 0, 2, 4))?;
+    /// assert_eq!(row, [0b0100_0000, 0b11]);
+    /// # Ok::<(), stableply::Refusal>(())
+    /// ```
+    fn copy_from(&mut self, span: Span, source: &Self, source_span: Span) -> Result<(), Refusal>;
+
+    /// Copies inside the span: its bit `destination` + i becomes its old bit `start` + i, for all i below `count` at once. The
+    /// two ranges may overlap.
+    ///
+    /// # Errors
+    ///
+    /// 1 to 3 for the span; [`NotBelow`](Refusal::NotBelow) (10) where `start` + `count` or `destination` + `count` is above its
+    /// length.
+    ///
+    /// ```
+    /// use stableply::{BitRow, Order};
+    ///
+    /// let mut row = [0xB4u8];
+    /// let all = row.whole(Order::Lsb0);
+    /// row.copy_inside(all, 0, 5, 2)?;
+    /// assert_eq!(row, [0xD0]);
+    /// # Ok::<(), stableply::Refusal>(())
+    /// ```
+    fn copy_inside(&mut self, span: Span, start: usize, count: usize, destination: usize) -> Result<(), Refusal>;
+
+    /// Combines the span with the right row's, bit by bit, into this row. Right bits past the end of theirs count as 0, and
+    /// those past the end of this span are ignored.
+    ///
+    /// # Errors
+    ///
+    /// 1 to 3 for the span, then for the right one; [`OrdersDiffer`](Refusal::OrdersDiffer) (6).
+    ///
+    /// ```
+    /// use stableply::{BitRow, Operation, Order, Span};
+    ///
+    /// let mut row = [0xB4u8];
+    /// let all = row.whole(Order::Lsb0);
+    /// row.boolean(all, &[0x0F], Span::new(Order::Lsb0, 0, 0, 4), Operation::Xor)?;
+    /// assert_eq!(row, [0xBB]);
+    /// row.boolean(all, &[0x0F], Span::new(Order::Lsb0, 0, 0, 4), Operation::And)?;
+    /// assert_eq!(row, [0x0B]);
+    /// # Ok::<(), stableply::Refusal>(())
+    /// ```
+    fn boolean(&mut self, span: Span, right: &Self, right_span: Span, operation: Operation) -> Result<(), Refusal>;
+
+    /// Swaps the bits of the span with those of the other row's.
+    ///
+    /// # Errors
+    ///
+    /// 1 to 3 for the span, then for the other one; [`OrdersDiffer`](Refusal::OrdersDiffer) (6);
+    /// [`LengthsDiffer`](Refusal::LengthsDiffer) (7).
+    ///
+    /// ```
+    /// use stableply::{BitRow, Order, Span};
+    ///
+    /// let (mut row, mut other) = ([0xB4u8], [0x00u8, 0x00]);
+    /// row.swap_with(Span::new(Order::Msb0, 0, 0, 4), &mut other, Span::new(Order::Msb0, 0, 6, 4))?;
+    /// assert_eq!((row, other), ([0x04], [0x02, 0xC0]));
+    /// # Ok::<(), stableply::Refusal>(())
+    /// ```
+    fn swap_with(&mut self, span: Span, other: &mut Self, other_span: Span) -> Result<(), Refusal>;
+
+    /// Whether the two spans have the same length and the same bits. The other row may be this one.
+    ///
+    /// # Errors
+    ///
+    /// 1 to 3 for the span, then for the other one; [`OrdersDiffer`](Refusal::OrdersDiffer) (6).
+    ///
+    /// ```
+    /// use stableply::{BitRow, Order, Span};
+    ///
+    /// let row = [0b1010_0101u8];
+    /// let low = Span::new(Order::Lsb0, 0, 0, 3);
+    /// let high = Span::new(Order::Lsb0, 0, 5, 3);
+    /// assert!(row.equal(low, &row, high)?);
+    /// assert!(!row.equal(low, &row, row.whole(Order::Lsb0))?);
+    /// # Ok::<(), stableply::Refusal>(())
+    /// ```
+    fn equal(&self, span: Span, other: &Self, other_span: Span) -> Result<bool, Refusal>;
+
+    /// The smallest index of a 1, counted from the span's start, or `None` exactly where there is none.
+    ///
+    /// # Errors
+    ///
+    /// 1 to 3 for the span.
+    ///
+    /// ```
+    /// use stableply::{BitRow, Order};
+    ///
+    /// let row = [0xB4u8];
+    /// assert_eq!(row.first_one(row.whole(Order::Lsb0))?, Some(2));
+    /// assert_eq!(row.first_one(row.whole(Order::Msb0))?, Some(0));
+    /// # Ok::<(), stableply::Refusal>(())
+    /// ```
+    fn first_one(&self, span: Span) -> Result<Option<usize>, Refusal>;
+
+    /// The largest index of a 1, counted from the span's start, or `None` exactly where there is none.
+    ///
+    /// # Errors
+    ///
+    /// 1 to 3 for the span.
+    ///
+    /// ```
+    /// use stableply::{BitRow, Order};
+    ///
+    /// let row = [0xB4u8];
+    /// assert_eq!(row.last_one(row.whole(Order::Lsb0))?, Some(7));
+    /// assert_eq!(row.last_one(row.whole(Order::Msb0))?, Some(5));
+    /// # Ok::<(), stableply::Refusal>(())
+    /// ```
+    fn last_one(&self, span: Span) -> Result<Option<usize>, Refusal>;
+
+    /// The smallest index of a 0, counted from the span's start, or `None` exactly where there is none.
+    ///
+    /// # Errors
+    ///
+    /// 1 to 3 for the span.
+    ///
+    /// ```
+    /// use stableply::{BitRow, Order};
+    ///
+    /// let row = [0xB4u8];
+    /// assert_eq!(row.first_zero(row.whole(Order::Lsb0))?, Some(0));
+    /// assert_eq!(row.first_zero(row.whole(Order::Msb0))?, Some(1));
+    /// # Ok::<(), stableply::Refusal>(())
+    /// ```
+    fn first_zero(&self, span: Span) -> Result<Option<usize>, Refusal>;
+
+    /// The largest index of a 0, counted from the span's start, or `None` exactly where there is none.
+    ///
+    /// # Errors
+    ///
+    /// 1 to 3 for the span.
+    ///
+    /// ```
+    /// use stableply::{BitRow, Order};
+    ///
+    /// let row = [0xB4u8];
+    /// assert_eq!(row.last_zero(row.whole(Order::Lsb0))?, Some(6));
+    /// assert_eq!(row.last_zero(row.whole(Order::Msb0))?, Some(7));
+    /// # Ok::<(), stableply::Refusal>(())
+    /// ```
+    fn last_zero(&self, span: Span) -> Result<Option<usize>, Refusal>;
+}
+
+mod sealed {
+    /// Keeps other types from being rows.
+    pub trait BitRow {}
+
+    impl<W: crate::Word> BitRow for [W] {}
+}
+
+impl<W: Word> BitRow for [W] {
+    // A row whose bits a `usize` cannot count has too many words for any call.
+    fn whole(&self, order: Order) -> Span {
+        Span::new(order, 0, 0, self.len().saturating_mul(W::BITS))
+    }
+
+    fn read_bit(&self, span: Span, index: usize) -> Result<bool, Refusal> {
+        border::read_bit(self, span, index)
+    }
+
+    fn write_bit(&mut self, span: Span, index: usize, bit: bool) -> Result<(), Refusal> {
+        border::write_bit(self, span, index, bit)
+    }
+
+    fn load_number(&self, span: Span, significance: Significance, kind: IntegerKind) -> Result<i128, Refusal> {
+        border::load(self, span, significance, kind)
+    }
+
+    fn store_number(&mut self, span: Span, significance: Significance, kind: IntegerKind, number: i128) -> Result<(), Refusal> {
+        border::store(self, span, significance, kind, number)
+    }
+
+    fn store_number_strict(
+        &mut self,
+        span: Span,
+        significance: Significance,
+        kind: IntegerKind,
+        number: i128,
+    ) -> Result<(), Refusal> {
+        border::store_strict(self, span, significance, kind, number)
+    }
+
+    fn copy_from(&mut self, span: Span, source: &Self, source_span: Span) -> Result<(), Refusal> {
+        border::copy_from(self, span, source, source_span)
+    }
+
+    fn copy_inside(&mut self, span: Span, start: usize, count: usize, destination: usize) -> Result<(), Refusal> {
+        border::copy_within(self, span, start, count, destination)
+    }
+
+    fn boolean(&mut self, span: Span, right: &Self, right_span: Span, operation: Operation) -> Result<(), Refusal> {
+        border::boolean(self, span, right, right_span, operation)
+    }
+
+    fn swap_with(&mut self, span: Span, other: &mut Self, other_span: Span) -> Result<(), Refusal> {
+        border::swap(self, span, other, other_span)
+    }
+
+    fn equal(&self, span: Span, other: &Self, other_span: Span) -> Result<bool, Refusal> {
+        border::equal(self, span, other, other_span)
+    }
+
+    fn first_one(&self, span: Span) -> Result<Option<usize>, Refusal> {
+        border::first_one(self, span)
+    }
+
+    fn last_one(&self, span: Span) -> Result<Option<usize>, Refusal> {
+        border::last_one(self, span)
+    }
+
+    fn first_zero(&self, span: Span) -> Result<Option<usize>, Refusal> {
+        border::first_zero(self, span)
+    }
+
+    fn last_zero(&self, span: Span) -> Result<Option<usize>, Refusal> {
+        border::last_zero(self, span)
+    }
+}

@@ -1,0 +1,159 @@
+/* Rows and searches; a part of words.h. */
+
+/* The refusals that all calls with two spans share. */
+static uint8_t refusal_of_two(const struct row *left, const struct row *right)
+{
+    if (left->span.order > 1 || right->span.order > 1) {
+        return 255;
+    }
+    if (refusal_of(left) != 0) {
+        return refusal_of(left);
+    }
+    if (refusal_of(right) != 0) {
+        return refusal_of(right);
+    }
+    return left->span.order != right->span.order ? 6 : 0;
+}
+
+/* A second row, whose span is mostly as long as the first's and of its order. */
+static struct row row_beside(const struct row *left)
+{
+    struct row right = row_new(40 * WIDTH);
+    if (below(4) != 0) {
+        right.span.length = left->span.length;
+    }
+    if (below(6) != 0) {
+        right.span.order = left->span.order;
+    }
+    return right;
+}
+
+static void try_copy_from(void)
+{
+    struct row row = row_new(40 * WIDTH), source = row_beside(&row);
+    uint8_t expected = refusal_of_two(&row, &source);
+
+    expected = expected == 0 && row.span.length != source.span.length ? 7 : expected;
+    for (size_t i = 0; expected == 0 && i < row.span.length; i++) {
+        put(model(&row), row.span, i, get(model(&source), source.span, i));
+    }
+    answered(COPY_FROM, WIDTH,
+             CALL(copy_from)(words(&row), row.lent, ARGUMENTS(row.span), words(&source), source.lent, ARGUMENTS(source.span)),
+             expected);
+    row_end(&row, COPY_FROM);
+    row_end(&source, COPY_FROM);
+}
+
+static void try_copy_within(void)
+{
+    struct row row = row_new(40 * WIDTH);
+    size_t start = some_place(row.span), destination = some_place(row.span), last = start > destination ? start : destination;
+    size_t room = row.span.length > last ? row.span.length - last : 0;
+    size_t count = below(8) == 0 ? some_size() : up_to(room + 1);
+    int inside = last <= row.span.length && count <= row.span.length - last;
+    uint8_t refusal = refusal_of(&row), expected = row.span.order > 1 ? 255 : refusal != 0 ? refusal : inside ? 0 : 10;
+
+    for (size_t i = 0; expected == 0 && i < count; i++) {
+        put(model(&row), row.span, destination + i, get(words(&row), row.span, start + i));
+    }
+    answered(COPY_WITHIN, WIDTH,
+             CALL(copy_within)(words(&row), row.lent, ARGUMENTS(row.span), start, count, destination), expected);
+    row_end(&row, COPY_WITHIN);
+}
+
+static void try_boolean(void)
+{
+    static const uint8_t operations[] = {STABLEPLY_AND, STABLEPLY_OR, STABLEPLY_XOR};
+    struct row row = row_new(40 * WIDTH), right = row_beside(&row);
+    uint8_t operation = below(12) == 0 ? (uint8_t)any() : operations[below(3)];
+    int known = operation == 8 || operation == 14 || operation == 6;
+    uint8_t expected = known ? refusal_of_two(&row, &right) : 255;
+
+    for (size_t i = 0; expected == 0 && i < row.span.length; i++) {
+        int a = get(words(&row), row.span, i), b = i < right.span.length ? get(words(&right), right.span, i) : 0;
+        put(model(&row), row.span, i, operation >> (2 * a + b) & 1);
+    }
+    answered(BOOLEAN, WIDTH,
+             CALL(boolean)(words(&row), row.lent, ARGUMENTS(row.span), words(&right), right.lent, ARGUMENTS(right.span), operation),
+             expected);
+    row_end(&row, BOOLEAN);
+    row_end(&right, BOOLEAN);
+}
+
+static void try_swap(void)
+{
+    struct row left = row_new(40 * WIDTH), right = row_beside(&left);
+    uint8_t expected = refusal_of_two(&left, &right);
+
+    expected = expected == 0 && left.span.length != right.span.length ? 7 : expected;
+    for (size_t i = 0; expected == 0 && i < left.span.length; i++) {
+        put(model(&left), left.span, i, get(words(&right), right.span, i));
+        put(model(&right), right.span, i, get(words(&left), left.span, i));
+    }
+    answered(SWAP, WIDTH,
+             CALL(swap)(words(&left), left.lent, ARGUMENTS(left.span), words(&right), right.lent, ARGUMENTS(right.span)), expected);
+    row_end(&left, SWAP);
+    row_end(&right, SWAP);
+}
+
+/* Compares two rows, made equal half of the time but perhaps for one bit, or two spans of one row. */
+static void try_equal(void)
+{
+    struct row left = row_new(40 * WIDTH), right = row_beside(&left);
+    const struct row *other = below(4) == 0 ? &left : &right;
+    struct span other_span = other == &left ? some_span(WIDTH, left.lent, 40 * WIDTH) : right.span;
+    struct row viewed = *other;
+    struct out_byte out = out_byte_new();
+    uint8_t expected, same;
+
+    viewed.span = other_span;
+    expected = refusal_of_two(&left, &viewed);
+    if (expected == 0 && other == &right && below(2) == 0) {
+        size_t shorter = left.span.length < other_span.length ? left.span.length : other_span.length;
+        for (size_t i = 0; i < shorter; i++) {
+            put(words(&right), right.span, i, get(words(&left), left.span, i));
+        }
+        if (shorter > 0 && below(2) == 0) {
+            size_t i = below(shorter);
+            put(words(&right), right.span, i, !get(words(&left), left.span, i));
+        }
+        memcpy(right.expected, right.all, row_bytes(&right));
+    }
+    same = left.span.length == other_span.length;
+    for (size_t i = 0; expected == 0 && same && i < left.span.length; i++) {
+        same = get(words(&left), left.span, i) == get(words(other), other_span, i);
+    }
+    answered(EQUAL, WIDTH,
+             CALL(equal)(words(&left), left.lent, ARGUMENTS(left.span), words(other), other->lent, ARGUMENTS(other_span), &out.value),
+             expected);
+    out_byte_check(&out, EQUAL, WIDTH, expected == 0, same);
+    row_end(&left, EQUAL);
+    row_end(&right, EQUAL);
+}
+
+/* The four searches, on one row: for a bit that is 0 or 1, from the first index or from the last. */
+static void try_searches(void)
+{
+    static uint8_t (*const searches[4])(const WORD *, size_t, uint8_t, size_t, size_t, size_t, uint8_t *, size_t *) = {
+        CALL(first_one), CALL(last_one), CALL(first_zero), CALL(last_zero)};
+    static const enum call_name names[4] = {FIRST_ONE, LAST_ONE, FIRST_ZERO, LAST_ZERO};
+    struct row row = row_new(SIZE_MAX);
+    uint8_t refusal = refusal_of(&row), expected = row.span.order > 1 ? 255 : refusal;
+
+    for (unsigned search = 0; search < 4; search++) {
+        struct out_byte found = out_byte_new();
+        struct out at = out_new();
+        size_t looked = 0, index = 0;
+        uint8_t there = 0;
+        while (expected == 0 && !there && looked < row.span.length) {
+            index = search % 2 == 0 ? looked : row.span.length - 1 - looked;
+            there = get(model(&row), row.span, index) == (search < 2);
+            looked++;
+        }
+        answered(names[search], WIDTH,
+                 searches[search](words(&row), row.lent, ARGUMENTS(row.span), &found.value, &at.value), expected);
+        out_byte_check(&found, names[search], WIDTH, expected == 0, there);
+        out_check(&at, names[search], WIDTH, expected == 0 && there, index);
+    }
+    row_end(&row, FIRST_ONE);
+}
