@@ -1,4 +1,5 @@
--- What each case of an answer's enum says, in document 01's numbers and values; and what a call promises.
+-- What each case of an answer's enum says, in document 01's numbers and values; and what a call promises. Cited by the promise of every
+-- call. Assumes nothing.
 use Prim.Native.Nat.{ℕ}
 use mathlib.Core.Path.{_≡_}
 use mathlib.Core.List.{List}

@@ -1,4 +1,5 @@
 -- The calls of document 01: what each answers, what memory holds after it, and, for one-buffer calls, which positions it reads and writes.
+-- Cited by the promise of every call, and by the isolation theorem. Assumes nothing.
 use Prim.Native.Nat.{ℕ, zero, suc, _+_, _%_, _^_}
 use mathlib.Core.Bool.{Bool, true, false, _||_, cond}
 use mathlib.Core.List.{List}

@@ -1,4 +1,4 @@
--- Document 01, field rules. A field of n bits begins at the place `at` of the row.
+-- Document 01, field rules. A field of n bits begins at the place `at` of the row. Cited by loads and stores. Assumes nothing.
 use Prim.Native.Nat.{ℕ, zero, suc, _+_, _-_, _*_, _/_, _^_, min}
 use mathlib.Core.Bool.{Bool, false, cond, _||_}
 use mathlib.Core.List.{List}

@@ -1,5 +1,5 @@
--- Document 01, position rules: positions, selectors, masks, spans and their bits, split and shortening. And what a call that writes a run of
--- bits leaves behind: `spliced`.
+-- Document 01, position rules: positions, selectors, masks, spans and their bits, split and shortening. And what a call that writes a run
+-- of bits leaves behind: `spliced`. Cited by every rule that speaks of spans. Assumes nothing.
 use Prim.Native.Nat.{ℕ, zero, suc, _+_, _-_, _*_, _/_, _%_, _^_}
 use mathlib.Core.Bool.{Bool, _&&_, cond}
 use mathlib.Core.List.{List}

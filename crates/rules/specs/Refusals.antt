@@ -1,4 +1,5 @@
--- Document 01, numbers of refusal: the table of each call, its rows in the order in which they are looked at. n words are lent.
+-- Document 01, numbers of refusal: the table of each call, its rows in the order in which they are looked at. n words are lent. Cited by
+-- every answer. Assumes nothing.
 use Prim.Native.Nat.{ℕ, _+_}
 use mathlib.Core.Bool.{Bool, true, false, _||_, not}
 use mathlib.Core.List.{List, [], _∷_, _++_}

@@ -1,4 +1,5 @@
--- Document 01, row rules: the bits that copies and boolean calls write, equality, the four searches. `b i` is bit i of a span.
+-- Document 01, row rules: the bits that copies and boolean calls write, equality, the four searches. `b i` is bit i of a span. Cited by the
+-- calls on rows. Assumes nothing.
 use Prim.Native.Nat.{ℕ, zero, suc, _+_, _*_}
 use mathlib.Core.Bool.{Bool, true, _&&_, cond}
 use mathlib.Core.List.{List}

@@ -1,4 +1,4 @@
--- Document 01's sample rows that are marked (*), from the rules.
+-- Document 01's sample rows that are marked (*), from the rules. Assumes nothing.
 use Prim.Native.Nat.{ℕ}
 use mathlib.Core.Path.{_≡_, refl}
 use mathlib.Core.List.{List, [], _∷_, map}

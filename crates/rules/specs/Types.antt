@@ -1,4 +1,5 @@
--- The declared types of src/lib.rt under one roof: their names and cases, and nothing of their own.
+-- The declared types of src/lib.rt under one roof: their names and cases, and nothing of their own. Cited wherever a type is named. Assumes
+-- nothing.
 pub use Rattle.rules.specs.declared.Width.{Width}
 pub use Rattle.rules.specs.declared.Width.the-variants.{W8, W64}
 pub use Rattle.rules.specs.declared.Order.{Order}

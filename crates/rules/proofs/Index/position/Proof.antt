@@ -1,3 +1,4 @@
+-- `Index::position`: by cases on the order, as the definition goes; the position stays below the width.
 use borrow.Author.Needs.{needs}
 use Rattle.rules.proofs.Index.position.Statement.{statement}
 use Rattle.rules.proofs.Index.position.Tie as tie

@@ -1,3 +1,4 @@
+-- `Number::bits`: by cases on the number; below 0 the difference stays above 0, since the number is a K-bit integer.
 use borrow.Author.Needs.{needs}
 use Rattle.rules.proofs.Number.bits.Statement.{statement}
 use Rattle.rules.proofs.Number.bits.Tie as tie

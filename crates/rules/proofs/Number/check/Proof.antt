@@ -1,3 +1,4 @@
+-- `Number::check`: the field's table, then the row of refusal 8.
 use borrow.Author.Needs.{needs}
 use Rattle.rules.proofs.Number.check.Statement.{statement}
 use Rattle.rules.proofs.Number.check.Tie as tie

@@ -1,3 +1,4 @@
+-- `Number::check_fit`: the value's table, then the row of refusal 9.
 use borrow.Author.Needs.{needs}
 use Rattle.rules.proofs.Number.check_fit.Statement.{statement}
 use Rattle.rules.proofs.Number.check_fit.Tie as tie

@@ -1,3 +1,4 @@
+-- `Number::fits`: as `Number::is_integer`, with the length for K; of a number below 0 the magnitude is tested.
 use borrow.Author.Needs.{needs}
 use Rattle.rules.proofs.Number.fits.Statement.{statement}
 use Rattle.rules.proofs.Number.fits.Tie as tie

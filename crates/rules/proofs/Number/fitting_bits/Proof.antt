@@ -1,3 +1,4 @@
+-- `Number::fitting_bits`: as `Number::low_bits`, behind the table with refusal 9.
 use borrow.Author.Needs.{needs}
 use Rattle.rules.proofs.Number.fitting_bits.Statement.{statement}
 use Rattle.rules.proofs.Number.fitting_bits.Tie as tie

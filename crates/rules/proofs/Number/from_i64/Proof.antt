@@ -1,3 +1,4 @@
+-- `Number::from_i64`: below 0 the flipped bits are -1 - z, else the bits are z.
 use Rattle.rules.proofs.Number.from_i64.Statement.{statement}
 use Rattle.rules.proofs.Number.from_i64.Tie as tie
 use mathlib.Core.Path.{ap, _∙_, subst⁻¹}

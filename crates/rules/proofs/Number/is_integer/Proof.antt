@@ -1,3 +1,4 @@
+-- `Number::is_integer`: a test against the largest number of K bits, or half of it, is the rule's test against a power of two.
 use borrow.Author.Needs.{needs}
 use Rattle.rules.proofs.Number.is_integer.Statement.{statement}
 use Rattle.rules.proofs.Number.is_integer.Tie as tie

@@ -1,3 +1,4 @@
+-- `Number::low_bits`: the verdict decides, and a mask leaves the low bits.
 use borrow.Author.Needs.{needs}
 use Rattle.rules.proofs.Number.low_bits.Statement.{statement}
 use Rattle.rules.proofs.Number.low_bits.Tie as tie

@@ -1,3 +1,4 @@
+-- `Number::of_bits`: up to half of the largest number the bits stand for themselves, above it for a number below 0.
 use borrow.Author.Needs.{needs}
 use Rattle.rules.proofs.Number.of_bits.Statement.{statement}
 use Rattle.rules.proofs.Number.of_bits.Tie as tie

@@ -1,3 +1,4 @@
+-- `Number::read`: the verdict decides, a mask leaves the low bits, and their number is the leaf's.
 use borrow.Author.Needs.{needs}
 use Rattle.rules.proofs.Number.read.Statement.{statement}
 use Rattle.rules.proofs.Number.read.Tie as tie

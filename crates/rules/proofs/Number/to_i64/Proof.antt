@@ -1,3 +1,4 @@
+-- `Number::to_i64`: up to 2 ^ 63 - 1 the machine's integer has the number's bits, or flipped ones; above it the table refuses 8.
 use borrow.Author.Needs.{needs}
 use Rattle.rules.proofs.Number.to_i64.Statement.{statement}
 use Rattle.rules.proofs.Number.to_i64.Tie as tie

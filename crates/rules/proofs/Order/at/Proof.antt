@@ -1,3 +1,4 @@
+-- `Order::at`: the one test is the one row of the table, and past it the position is the leaf's.
 use borrow.Author.Needs.{needs}
 use Rattle.rules.proofs.Order.at.Statement.{statement}
 use Rattle.rules.proofs.Order.at.Tie as tie

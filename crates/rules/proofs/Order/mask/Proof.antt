@@ -1,3 +1,4 @@
+-- `Order::mask`: the three tests are the rows of the table in their order; past them the mask is `run`.
 use borrow.Author.Needs.{needs}
 use Rattle.rules.proofs.Order.mask.Statement.{statement}
 use Rattle.rules.proofs.Order.mask.Tie as tie

@@ -1,3 +1,4 @@
+-- `Order::select`: as `Order::at`, and the selector is 2 to the position that the leaf gives.
 use borrow.Author.Needs.{needs}
 use Rattle.rules.proofs.Order.select.Statement.{statement}
 use Rattle.rules.proofs.Order.select.Tie as tie

@@ -1,3 +1,4 @@
+-- `Position::select`: a one moved by less than 64 loses nothing.
 use borrow.Author.Needs.{needs}
 use Rattle.rules.proofs.Position.select.Statement.{statement}
 use Rattle.rules.proofs.Position.select.Tie as tie

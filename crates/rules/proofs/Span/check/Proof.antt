@@ -1,3 +1,4 @@
+-- `Span::check`: the tests are the rows of the table in their order. Refusal 3 is told by the room left behind the first word, so that no sum can pass 2 ^ 64.
 use borrow.Author.Needs.{needs}
 use Rattle.rules.proofs.Span.check.Statement.{statement}
 use Rattle.rules.proofs.Span.check.Tie as tie

@@ -1,3 +1,4 @@
+-- `Span::check_place`: the span's table, then its last row.
 use borrow.Author.Needs.{needs}
 use Rattle.rules.proofs.Span.check_place.Statement.{statement}
 use Rattle.rules.proofs.Span.check_place.Tie as tie

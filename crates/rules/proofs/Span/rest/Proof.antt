@@ -1,3 +1,4 @@
+-- `Span::rest`: the sums of an accepted place stay in bounds, and the fields are those of the second half.
 use borrow.Author.Needs.{needs}
 use Rattle.rules.proofs.Span.rest.Statement.{statement}
 use Rattle.rules.proofs.Span.rest.Tie as tie

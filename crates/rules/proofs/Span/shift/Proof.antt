@@ -1,3 +1,4 @@
+-- `Span::shift`: the verdict decides, and the span is the second half.
 use borrow.Author.Needs.{needs}
 use Rattle.rules.proofs.Span.shift.Statement.{statement}
 use Rattle.rules.proofs.Span.shift.Tie as tie

@@ -1,3 +1,4 @@
+-- `Span::shorten`: the verdict decides, and the span is the first half.
 use borrow.Author.Needs.{needs}
 use Rattle.rules.proofs.Span.shorten.Statement.{statement}
 use Rattle.rules.proofs.Span.shorten.Tie as tie

@@ -1,3 +1,4 @@
+-- `Span::split`: the verdict decides, and the two halves are the leaves' own.
 use borrow.Author.Needs.{needs}
 use Rattle.rules.proofs.Span.split.Statement.{statement}
 use Rattle.rules.proofs.Span.split.Tie as tie

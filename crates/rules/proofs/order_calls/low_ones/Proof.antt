@@ -1,3 +1,4 @@
+-- `low_ones`: 64 ones moved down are n ones.
 use borrow.Author.Needs.{needs}
 use Rattle.rules.proofs.order_calls.low_ones.Statement.{statement}
 use Rattle.rules.proofs.order_calls.low_ones.Tie as tie

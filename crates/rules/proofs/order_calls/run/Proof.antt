@@ -1,3 +1,4 @@
+-- `run`: the ones of a mask, moved to the lowest position of their indexes, in either order; an empty mask is 0.
 use borrow.Author.Needs.{needs}
 use Rattle.rules.proofs.order_calls.run.Statement.{statement}
 use Rattle.rules.proofs.order_calls.run.Tie as tie

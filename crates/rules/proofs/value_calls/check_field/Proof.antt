@@ -1,3 +1,4 @@
+-- `check_field`: the tests are the rows of the table in their order.
 use borrow.Author.Needs.{needs}
 use Rattle.rules.proofs.value_calls.check_field.Statement.{statement}
 use Rattle.rules.proofs.value_calls.check_field.Tie as tie

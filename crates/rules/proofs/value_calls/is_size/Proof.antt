@@ -1,3 +1,4 @@
+-- `is_size`: the four numbers, one after another.
 use Rattle.rules.proofs.value_calls.is_size.Statement.{statement}
 use Rattle.rules.proofs.value_calls.is_size.Tie as tie
 use native.Mathlib.Omega.{arith}

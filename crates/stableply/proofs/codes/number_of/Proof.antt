@@ -1,3 +1,4 @@
+-- `number_of`: 0, and any other code.
 use Rattle.stableply.proofs.codes.number_of.Statement.{statement}
 use Rattle.stableply.proofs.codes.number_of.Tie as tie
 use Rattle.stableply.proofs.codes.number_of.Reads as reads

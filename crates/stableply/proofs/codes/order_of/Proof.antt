@@ -1,3 +1,4 @@
+-- `order_of`: 0, and any other code.
 use borrow.Author.Needs.{needs}
 use Rattle.stableply.proofs.codes.order_of.Statement.{statement}
 use Rattle.stableply.proofs.codes.order_of.Tie as tie

@@ -1,3 +1,4 @@
+-- `sign_of`: 0, and any other code.
 use borrow.Author.Needs.{needs}
 use Rattle.stableply.proofs.codes.sign_of.Statement.{statement}
 use Rattle.stableply.proofs.codes.sign_of.Tie as tie

@@ -1,3 +1,4 @@
+-- `significance_of`: 0, and any other code.
 use borrow.Author.Needs.{needs}
 use Rattle.stableply.proofs.codes.significance_of.Statement.{statement}
 use Rattle.stableply.proofs.codes.significance_of.Tie as tie

@@ -1,3 +1,4 @@
+-- `span_of`: the four numbers, and the order that the first names.
 use borrow.Author.Needs.{needs}
 use Rattle.stableply.proofs.codes.span_of.Statement.{statement}
 use Rattle.stableply.proofs.codes.span_of.Tie as tie

@@ -1,3 +1,4 @@
+-- `leave_number`: a number below 0 leaves as its bits in 64-bit two's complement.
 use borrow.Author.Needs.{needs}
 use Rattle.stableply.proofs.leaving.leave_number.Statement.{statement}
 use Rattle.stableply.proofs.leaving.leave_number.Tie as tie

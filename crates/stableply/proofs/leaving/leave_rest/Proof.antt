@@ -1,3 +1,4 @@
+-- `leave_rest`: the three numbers of the rest, or nothing.
 use borrow.Author.Needs.{needs}
 use Rattle.stableply.proofs.leaving.leave_rest.Statement.{statement}
 use Rattle.stableply.proofs.leaving.leave_rest.Tie as tie

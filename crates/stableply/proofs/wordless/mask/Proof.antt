@@ -1,3 +1,4 @@
+-- `mask`: a code that is none gives 255; else the promise is that of `Order::mask`, the order named.
 use borrow.Author.Needs.{needs}
 use Rattle.stableply.proofs.wordless.mask.Statement.{statement}
 use Rattle.stableply.proofs.wordless.mask.Tie as tie

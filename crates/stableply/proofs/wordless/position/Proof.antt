@@ -1,3 +1,4 @@
+-- `position`: a code that is none gives 255; else the promise is that of `Order::at`, the order named.
 use borrow.Author.Needs.{needs}
 use Rattle.stableply.proofs.wordless.position.Statement.{statement}
 use Rattle.stableply.proofs.wordless.position.Tie as tie

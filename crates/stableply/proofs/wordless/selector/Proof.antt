@@ -1,3 +1,4 @@
+-- `selector`: a code that is none gives 255; else the promise is that of `Order::select`, the order named.
 use borrow.Author.Needs.{needs}
 use Rattle.stableply.proofs.wordless.selector.Statement.{statement}
 use Rattle.stableply.proofs.wordless.selector.Tie as tie

@@ -1,3 +1,4 @@
+-- `split`: a code that is none gives 255; else the promise is that of `Span::split`, the span named.
 use borrow.Author.Needs.{needs}
 use Rattle.stableply.proofs.wordless.split.Statement.{statement}
 use Rattle.stableply.proofs.wordless.split.Tie as tie

@@ -1,3 +1,4 @@
+-- `stableply_mask`: the two widths, and 255 for any other.
 use borrow.Author.Needs.{needs}
 use Rattle.stableply.proofs.wordless.stableply_mask.Statement.{statement}
 use Rattle.stableply.proofs.wordless.stableply_mask.Tie as tie

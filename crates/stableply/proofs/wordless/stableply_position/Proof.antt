@@ -1,3 +1,4 @@
+-- `stableply_position`: the two widths, and 255 for any other.
 use borrow.Author.Needs.{needs}
 use Rattle.stableply.proofs.wordless.stableply_position.Statement.{statement}
 use Rattle.stableply.proofs.wordless.stableply_position.Tie as tie

@@ -1,3 +1,4 @@
+-- `stableply_selector`: the two widths, and 255 for any other.
 use borrow.Author.Needs.{needs}
 use Rattle.stableply.proofs.wordless.stableply_selector.Statement.{statement}
 use Rattle.stableply.proofs.wordless.stableply_selector.Tie as tie

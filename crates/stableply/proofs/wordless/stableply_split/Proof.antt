@@ -1,3 +1,4 @@
+-- `stableply_split`: the two widths, and 255 for any other.
 use borrow.Author.Needs.{needs}
 use Rattle.stableply.proofs.wordless.stableply_split.Statement.{statement}
 use Rattle.stableply.proofs.wordless.stableply_split.Tie as tie
