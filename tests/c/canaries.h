@@ -51,11 +51,9 @@ struct out {
 struct out out_new(void);
 void out_check(const struct out *out, enum call_name call, unsigned width, int written, uint64_t expected);
 
-struct out_byte {
-    uint8_t before, value, after, old_before, old_value, old_after;
-};
-struct out_byte out_byte_new(void);
-void out_byte_check(const struct out_byte *out, enum call_name call, unsigned width, int written, uint8_t expected);
+/* The first byte of an out value, where a call leaves one byte; the seven beside it are canaries too. */
+uint8_t *out_byte(struct out *out);
+void out_byte_check(const struct out *out, enum call_name call, unsigned width, int written, uint8_t expected);
 
 /* The rules: the refusal of a span, 0 where there is none; the exponent of bit i of a field. */
 uint8_t span_refusal(unsigned width, size_t lent, struct span span);

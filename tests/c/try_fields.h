@@ -6,9 +6,9 @@ static void try_bit(void)
     size_t index = some_place(row.span);
     uint8_t bit = some_code(16), refusal = refusal_of(&row), inside = index < row.span.length;
     uint8_t expected = row.span.order > 1 ? 255 : refusal != 0 ? refusal : inside ? 0 : 10;
-    struct out_byte out = out_byte_new();
+    struct out out = out_new();
 
-    answered(READ_BIT, WIDTH, CALL(read_bit)(words(&row), row.lent, ARGUMENTS(row.span), index, &out.value), expected);
+    answered(READ_BIT, WIDTH, CALL(read_bit)(words(&row), row.lent, ARGUMENTS(row.span), index, out_byte(&out)), expected);
     out_byte_check(&out, READ_BIT, WIDTH, expected == 0, expected == 0 ? (uint8_t)get(model(&row), row.span, index) : 0);
 
     expected = bit > 1 ? 255 : expected;

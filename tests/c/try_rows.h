@@ -103,7 +103,7 @@ static void try_equal(void)
     const struct row *other = below(4) == 0 ? &left : &right;
     struct span other_span = other == &left ? some_span(WIDTH, left.lent, 40 * WIDTH) : right.span;
     struct row viewed = *other;
-    struct out_byte out = out_byte_new();
+    struct out out = out_new();
     uint8_t expected, same;
 
     viewed.span = other_span;
@@ -124,7 +124,7 @@ static void try_equal(void)
         same = get(words(&left), left.span, i) == get(words(other), other_span, i);
     }
     answered(EQUAL, WIDTH,
-             CALL(equal)(words(&left), left.lent, ARGUMENTS(left.span), words(other), other->lent, ARGUMENTS(other_span), &out.value),
+             CALL(equal)(words(&left), left.lent, ARGUMENTS(left.span), words(other), other->lent, ARGUMENTS(other_span), out_byte(&out)),
              expected);
     out_byte_check(&out, EQUAL, WIDTH, expected == 0, same);
     row_end(&left, EQUAL);
@@ -141,8 +141,7 @@ static void try_searches(void)
     uint8_t refusal = refusal_of(&row), expected = row.span.order > 1 ? 255 : refusal;
 
     for (unsigned search = 0; search < 4; search++) {
-        struct out_byte found = out_byte_new();
-        struct out at = out_new();
+        struct out found = out_new(), at = out_new();
         size_t looked = 0, index = 0;
         uint8_t there = 0;
         while (expected == 0 && !there && looked < row.span.length) {
@@ -151,7 +150,7 @@ static void try_searches(void)
             looked++;
         }
         answered(names[search], WIDTH,
-                 searches[search](words(&row), row.lent, ARGUMENTS(row.span), &found.value, &at.value), expected);
+                 searches[search](words(&row), row.lent, ARGUMENTS(row.span), out_byte(&found), &at.value), expected);
         out_byte_check(&found, names[search], WIDTH, expected == 0, there);
         out_check(&at, names[search], WIDTH, expected == 0 && there, index);
     }

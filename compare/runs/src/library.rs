@@ -185,5 +185,5 @@ macro_rules! exported {
     };
 }
 
-exported!(u8, w8);
-exported!(u64, w64);
+exported!(u8, on_u8);
+exported!(u64, on_u64);

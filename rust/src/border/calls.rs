@@ -1,14 +1,17 @@
 //! What the archive exports, as `include/stableply.h` declares it, argument for argument.
+//!
+//! This file alone is also the crate `exported` of compare/, so that the calls compared are the calls bound here.
 
 /// Declares the calls on lent words, once for each width, and gathers those of one width in a [`Calls`].
 macro_rules! calls_on_words {
     ($($name:ident($($argument:ident: $kind:ty),* $(,)?);)*) => {
         /// The calls on rows of `W` words.
         pub struct Calls<W> {
-            $(pub(super) $name: unsafe extern "C" fn($($argument: $kind),*) -> u8,)*
+            $(pub $name: unsafe extern "C" fn($($argument: $kind),*) -> u8,)*
         }
 
-        mod on_u8 {
+        /// The calls on words of 8 bits.
+        pub mod on_u8 {
             type W = u8;
             unsafe extern "C" {
                 $(
@@ -18,7 +21,8 @@ macro_rules! calls_on_words {
             }
         }
 
-        mod on_u64 {
+        /// The calls on words of 64 bits.
+        pub mod on_u64 {
             type W = u64;
             unsafe extern "C" {
                 $(
@@ -28,8 +32,8 @@ macro_rules! calls_on_words {
             }
         }
 
-        pub(super) const ON_U8: Calls<u8> = Calls { $($name: on_u8::$name),* };
-        pub(super) const ON_U64: Calls<u64> = Calls { $($name: on_u64::$name),* };
+        pub const ON_U8: Calls<u8> = Calls { $($name: on_u8::$name),* };
+        pub const ON_U64: Calls<u64> = Calls { $($name: on_u64::$name),* };
     };
 }
 
@@ -68,11 +72,11 @@ calls_on_words! {
 }
 
 unsafe extern "C" {
-    pub(super) fn stableply_position(width: u8, order: u8, index: usize, out: *mut u64) -> u8;
-    pub(super) fn stableply_selector(width: u8, order: u8, index: usize, out: *mut u64) -> u8;
-    pub(super) fn stableply_mask(width: u8, order: u8, from: usize, upto: usize, out: *mut u64) -> u8;
+    pub fn stableply_position(width: u8, order: u8, index: usize, out: *mut u64) -> u8;
+    pub fn stableply_selector(width: u8, order: u8, index: usize, out: *mut u64) -> u8;
+    pub fn stableply_mask(width: u8, order: u8, from: usize, upto: usize, out: *mut u64) -> u8;
     #[rustfmt::skip]
-    pub(super) fn stableply_split(
+    pub fn stableply_split(
         width: u8,
         lent: usize,
         order: u8,

@@ -162,7 +162,7 @@ macro_rules! calls {
     };
 }
 
-calls!(Library, u8, exported::w8);
-calls!(Library, u64, exported::w64);
+calls!(Library, u8, exported::on_u8);
+calls!(Library, u64, exported::on_u64);
 calls!(PlainRust, u8, plain::w8);
 calls!(PlainRust, u64, plain::w64);
