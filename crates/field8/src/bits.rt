@@ -32,7 +32,7 @@ fn load_rest(
     pieces::join(significance, a, whole * 8, b, last)
 }
 
-// The number that the bits of a field are, from index `head` of a word on.
+// The number that the bits of a field of more than one piece are, from index `head` of a word on.
 pub fn load_bits(
     words: &[u8],
     order: Order,
@@ -41,7 +41,7 @@ pub fn load_bits(
     head: usize,
     len: usize,
 ) -> u64
-    requires { ⌜ (head < 8) × (1 ≤ len) × (len ≤ chunk) × (word * 8 + head + len ≤ length (now words) * 8) ⌝ }
+    requires { ⌜ (head < 8) × (8 < head + len) × (len ≤ chunk) × (word * 8 + head + len ≤ length (now words) * 8) ⌝ }
     ensures { λ r. ⌜ (r ≡ loadOf 8 order significance (now (words .entry)) (word * 8 + head) len) × (r < 2 ^ len) ⌝ }
 {
     let cut = Cut::of(8, head, len);
@@ -49,9 +49,6 @@ pub fn load_bits(
     let whole = cut.whole;
     let last = cut.last;
     let a = piece_at(words, order, word, head, first);
-    if first == len {
-        return a;
-    }
     let b = load_rest(words, order, significance, word + 1, whole, last);
     pieces::join(significance, a, first, b, len - first)
 }
@@ -78,7 +75,7 @@ fn store_rest(
     put_piece(words, order, start + whole, 0, last, b);
 }
 
-// The low bits of a number, placed so that a load returns them. All other bits stay.
+// The low bits of a number, placed in a field of more than one piece so that a load returns them. All other bits stay.
 pub fn store_bits(
     words: &mut [u8],
     order: Order,
@@ -88,17 +85,13 @@ pub fn store_bits(
     len: usize,
     v: u64,
 )
-    requires { ⌜ (head < 8) × (1 ≤ len) × (len ≤ chunk) × (word * 8 + head + len ≤ length (now words) * 8) ⌝ }
+    requires { ⌜ (head < 8) × (8 < head + len) × (len ≤ chunk) × (word * 8 + head + len ≤ length (now words) * 8) ⌝ }
     ensures { λ _. ⌜ now (words .exit) ≡ storeOf 8 order significance (now (words .entry)) (word * 8 + head) len v ⌝ }
 {
     let cut = Cut::of(8, head, len);
     let first = cut.first;
     let whole = cut.whole;
     let last = cut.last;
-    if first == len {
-        put_piece(words, order, word, head, first, v);
-        return;
-    }
     let a = pieces::first_of(significance, v, len - first);
     put_piece(words, order, word, head, first, a);
     let b = pieces::rest_of(significance, v, first);

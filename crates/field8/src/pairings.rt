@@ -1,10 +1,12 @@
-// The four pairings of order and significance, each with its own constants. Those of an order with its own significance go through a chunk
-// where that pays.
+// A field within one word, which has no significance to heed, and the four pairings of order and significance, each with its own constants.
+// Those of an order with its own significance go through a chunk where that pays.
 use crate::bits::load_bits;
 use crate::bits::store_bits;
 use crate::near::load_near;
 use crate::near::pays;
 use crate::near::store_near;
+use crate::parts::piece_at;
+use crate::parts::put_piece;
 use rules::Order;
 use rules::Significance;
 ghost use mathlib.Core.Path.{_≡_};
@@ -13,7 +15,7 @@ ghost use lib.ListN.{length};
 ghost use Rattle.rules.specs.Fields.{loadOf, storeOf};
 ghost use Rattle.rules.proofs.Chunks.{chunk};
 
-// A load by its pairing.
+// A load, by its pairing where it has more than one piece.
 pub fn load_by(
     words: &[u8],
     order: Order,
@@ -25,6 +27,9 @@ pub fn load_by(
     requires { ⌜ (head < 8) × (1 ≤ len) × (len ≤ chunk) × (word * 8 + head + len ≤ length (now words) * 8) ⌝ }
     ensures { λ r. ⌜ (r ≡ loadOf 8 order significance (now (words .entry)) (word * 8 + head) len) × (r < 2 ^ len) ⌝ }
 {
+    if len <= 8 - head {
+        return piece_at(words, order, word, head, len);
+    }
     match order {
         Order::Lsb0 => match significance {
             Significance::Le => {
@@ -49,7 +54,7 @@ pub fn load_by(
     }
 }
 
-// A store by its pairing.
+// A store, by its pairing where it has more than one piece.
 pub fn store_by(
     words: &mut [u8],
     order: Order,
@@ -62,6 +67,10 @@ pub fn store_by(
     requires { ⌜ (head < 8) × (1 ≤ len) × (len ≤ chunk) × (word * 8 + head + len ≤ length (now words) * 8) ⌝ }
     ensures { λ _. ⌜ now (words .exit) ≡ storeOf 8 order significance (now (words .entry)) (word * 8 + head) len v ⌝ }
 {
+    if len <= 8 - head {
+        put_piece(words, order, word, head, len, v);
+        return;
+    }
     match order {
         Order::Lsb0 => match significance {
             Significance::Le => {

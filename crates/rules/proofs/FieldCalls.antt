@@ -1,16 +1,17 @@
 -- The calls on fields: their tables joined from those of code, and their answers and memory from what code reads and writes. Assumes nothing.
 use mathlib.Core.Path.{_≡_, refl, sym, ap, _∙_}
-use mathlib.Core.List.{List}
+use mathlib.Core.Bool.{not}
+use mathlib.Core.List.{List, [], _∷_}
 use Prim.Native.Nat.{ℕ, _+_, _*_, _^_, _≤_, _<_}
 use lib.ListN.{length}
 use lib.IntN.{ℤ}
-use Rattle.rules.specs.Types.{Span, Significance, Sign, Number, Refusal, Verdict, Fine, Refused, NumberAnswer, Number·Is, Number·Refused, WriteAnswer, Done, Write·Refused}
+use Rattle.rules.specs.Types.{Span, Significance, Sign, Number, Refusal, Verdict, Fine, Refused, NumberAnswer, Number·Is, Number·Refused, WriteAnswer, Done, Write·Refused, DoesNotFit}
 use Rattle.rules.specs.Positions.{start}
-use Rattle.rules.specs.Fields.{loadOf, storeOf, readAs, whole, bitsOf}
-use Rattle.rules.specs.Refusals.{number, verdict, spanCases, fieldCases, valueCases, fittingCases, loadCases, storeCases, strictCases}
+use Rattle.rules.specs.Fields.{loadOf, storeOf, readAs, whole, bitsOf, fits}
+use Rattle.rules.specs.Refusals.{number, verdict, _when_, spanCases, fieldCases, valueCases, fittingCases, loadCases, storeCases, strictCases}
 use Rattle.rules.specs.Calls.{load, store, strictStore, cases, answer!, after!, answer, after, a-number}
 use Rattle.rules.specs.Answers.{numberSays, writeSays, Gives}
-use Rattle.rules.proofs.Tables.{stops, goes}
+use Rattle.rules.proofs.Tables.{stops, goes, fine-parts}
 use Rattle.rules.proofs.Sentences.{refused-call, accepted-call}
 
 -- ---- load
@@ -51,3 +52,14 @@ module _ (W : ℕ) (ws : List ℕ) (s : Span) (K : ℕ) (e : Significance) (g : 
   strict-done h p q =
       let c = accepted-call W (strictStore s K e g v) ws h in
       record { answers = sym (c .0); holds = q ∙ ap (storeOf W (s .order) e ws (start W s) (s .len)) p ∙ sym (c .1) }
+
+  -- what strict store accepts, store accepts too, and leaves the same
+  pub strict-by-store : verdict (strictCases W (length ws) s K g v) ≡ Fine
+      → (answer W (store s K e g v) ws ≡ answer W (strictStore s K e g v) ws) × (after W (store s K e g v) ws ≡ after W (strictStore s K e g v) ws)
+  unfolding cases answer! after! strictCases storeCases fittingCases
+  strict-by-store h =
+      let p = fine-parts (spanCases W (length ws) s) (fittingCases K (s .len) g v) h in
+      let q = fine-parts (valueCases K (s .len) g v) (DoesNotFit when not (fits (s .len) g v) ∷ []) (p .1) in
+      let c = accepted-call W (strictStore s K e g v) ws h in
+      let d = accepted-call W (store s K e g v) ws (goes (spanCases W (length ws) s) (valueCases K (s .len) g v) (p .0) ∙ q .0) in
+      (d .0 ∙ sym (c .0), d .1 ∙ sym (c .1))

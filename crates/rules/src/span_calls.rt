@@ -8,37 +8,52 @@ use crate::SplitAnswer;
 use crate::Verdict;
 use crate::Width;
 ghost use mathlib.Core.Path.{_≡_};
-ghost use Prim.Native.Nat.{_≤_};
+ghost use mathlib.Core.Bool.{not};
+ghost use Prim.Native.Nat.{_≤_, _<_};
 ghost use Rattle.rules.specs.Types.{Fine};
 ghost use Rattle.rules.specs.Bits.{bits};
-ghost use Rattle.rules.specs.Positions.{firstHalf, secondHalf};
+ghost use Rattle.rules.specs.Positions.{inBounds, firstHalf, secondHalf};
 ghost use Rattle.rules.specs.Refusals.{verdict, spanCases, splitCases};
 ghost use Rattle.rules.specs.Calls.{splitAnswer, shortenAnswer, shiftAnswer};
 ghost use Rattle.rules.specs.Answers.{splitSays, spanSays};
 
 impl Span {
-    // Refusals 1 to 3 over `lent` words. Nothing is summed before it is known to be small, so any numbers get an answer.
-    pub fn check(self, width: Width, lent: usize) -> Verdict
-        ensures { λ r. ⌜ r ≡ verdict (spanCases (bits width) lent self) ⌝ }
+    // Whether a span is not in bounds, for a caller that has seen that 1 and 2 do not hold. Nothing is summed before it is known to be small, so any
+    // numbers get an answer: where no word is left, there is room for no bit at head 0.
+    fn is_outside(self, width: Width, lent: usize) -> bool
+        requires { ⌜ (lent ≤ 65536) × (self .head .0 < bits width) ⌝ }
+        ensures { λ r. ⌜ r ≡ not (inBounds (bits width) lent self) ⌝ }
     {
         let w = width.bits();
         let head = self.head.0;
         let word = self.word;
         let len = self.len;
+        if lent <= word {
+            if lent < word {
+                return true;
+            }
+            if 0 < head {
+                return true;
+            }
+            return 0 < len;
+        }
+        (lent - word) * w - head < len
+    }
+
+    // Refusals 1 to 3 over `lent` words.
+    pub fn check(self, width: Width, lent: usize) -> Verdict
+        ensures { λ r. ⌜ r ≡ verdict (spanCases (bits width) lent self) ⌝ }
+    {
+        let w = width.bits();
+        let head = self.head.0;
         if 65536 < lent {
             return Verdict::Refused(Refusal::TooManyWords);
         }
         if w <= head {
             return Verdict::Refused(Refusal::IndexTooLarge);
         }
-        if lent < word {
-            return Verdict::Refused(Refusal::OutOfBounds);
-        }
-        let room = (lent - word) * w;
-        if room < head {
-            return Verdict::Refused(Refusal::OutOfBounds);
-        }
-        if room - head < len {
+        let outside = self.is_outside(width, lent);
+        if outside {
             return Verdict::Refused(Refusal::OutOfBounds);
         }
         Verdict::Fine

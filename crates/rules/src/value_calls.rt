@@ -16,20 +16,14 @@ ghost use Rattle.rules.specs.Refusals.{verdict, fieldCases, valueCases, 
 ghost use Rattle.rules.specs.Calls.{lowBitsAnswer, fittingAnswer, readAnswer, machineAnswer};
 ghost use Rattle.rules.specs.Answers.{numberSays, lowBitsSays, machineSays};
 
-// Whether K is one of the four.
+// Whether K is one of the four: a power of two, and one of the bits 8, 16, 32 and 64.
 fn is_size(k: usize) -> bool
     ensures { λ r. ⌜ r ≡ isSize k ⌝ }
 {
-    if k == 8 {
-        return true;
+    if k & 120 == 0 {
+        return false;
     }
-    if k == 16 {
-        return true;
-    }
-    if k == 32 {
-        return true;
-    }
-    k == 64
+    k & (k - 1) == 0
 }
 
 // Refusals 4 and 5: K is 8, 16, 32 or 64, and a field has 1 to K bits.
@@ -144,11 +138,11 @@ impl Number {
         match sign {
             Sign::Unsigned => Number::Up(loaded),
             Sign::Signed => {
-                let top = low_ones(len);
-                if loaded <= top / 2 {
+                let below = low_ones(len) - loaded;
+                if loaded <= below {
                     Number::Up(loaded)
                 } else {
-                    Number::Down(top - loaded)
+                    Number::Down(below)
                 }
             }
         }

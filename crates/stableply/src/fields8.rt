@@ -7,6 +7,8 @@ use crate::codes::span_of;
 use crate::leaving::leave_bit;
 use crate::leaving::leave_number;
 use crate::leaving::leave_write;
+use rules::Verdict;
+use rules::Width;
 ghost use mathlib.Core.Bool.{_||_};
 ghost use Rattle.rules.specs.Fields.{whole};
 ghost use Rattle.rules.specs.Calls.{readBit, writeBit, load, store, strictStore, answer, after};
@@ -121,7 +123,7 @@ pub extern "C" fn stableply8_store(
     leave_write(field8::store(words, span, k, weight, named, number))
 }
 
-// The same, but only for a value that fits.
+// The same, but only for a value that fits. It stores by the call above, whose code is then in one place and whole.
 #[no_mangle]
 pub extern "C" fn stableply8_store_strict(
     words: &mut [u8],
@@ -150,8 +152,22 @@ pub extern "C" fn stableply8_store_strict(
         return 255;
     }
     let span = span_of(order, word, head, length);
-    let weight = significance_of(significance);
     let named = sign_of(sign);
     let number = number_of(below, value);
-    leave_write(field8::store_strict(words, span, k, weight, named, number))
+    let verdict = pieces::check_strict(Width::W8, words.len(), span, k, named, number);
+    match verdict {
+        Verdict::Refused(no) => no.number(),
+        Verdict::Fine => stableply8_store(
+            words,
+            order,
+            word,
+            head,
+            length,
+            k,
+            significance,
+            sign,
+            below,
+            value,
+        ),
+    }
 }

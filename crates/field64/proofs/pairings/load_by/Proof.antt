@@ -6,6 +6,15 @@ use Rattle.rules.proofs.Chunk.{own}
 use Rattle.field64.proofs.pairings.load_by.Statement.{statement}
 use Rattle.field64.proofs.pairings.load_by.Tie as tie
 
+sub-if1 : tie.Need-sub-if1
+sub-if1 c = search needs
+
+piece-at-requires : tie.Need-piece-at-requires
+piece-at-requires c κs = search needs
+
+returns : tie.Need-returns
+returns c = let a = c .before .before .before .args in (c .piece-at .ensures .0 (a .significance), c .piece-at .ensures .1)
+
 enum-told : tie.Need-enum-told
 enum-told c = search needs
 
@@ -21,8 +30,8 @@ pays-requires c κs = search needs
 load-near-requires : tie.Need-load-near-requires
 unfolding own
 load-near-requires c κs = let d = c in
-    let p = d .before .before .before .before .before .before .before .pre in
-    let room = d .before .pays .ensures (d .if1 .taken) in
+    let p = d .before .before .before .before .before .before .before .before .pre in
+    let room = d .before .pays .ensures (d .if2 .taken) in
     (p .0, p .1, p .2, p .3, omega arith, refl)
 
 load-bits-requires : tie.Need-load-bits-requires
@@ -55,35 +64,38 @@ pays-requires-2 c κs = search needs
 load-near-requires-2 : tie.Need-load-near-requires-2
 unfolding own
 load-near-requires-2 c κs = let d = c in
-    let p = d .before .before .before .before .before .before .before .pre in
-    let room = d .before .pays2 .ensures (d .if2 .taken) in
+    let p = d .before .before .before .before .before .before .before .before .pre in
+    let room = d .before .pays2 .ensures (d .if3 .taken) in
     (p .0, p .1, p .2, p .3, omega arith, refl)
 
 load-bits-requires-4 : tie.Need-load-bits-requires-4
 load-bits-requires-4 c κs = search needs
 
-returns : tie.Need-returns
-returns c = rw (c .before .before .before .before .before .enum-told .given .1, c .before .before .before .enum-told2 .given .1) (c .load-near .ensures)
-
 returns-2 : tie.Need-returns-2
-returns-2 c = rw (c .before .before .before .before .before .enum-told .given .1, c .before .before .before .enum-told2 .given .1) (c .load-bits .ensures)
+returns-2 c = rw (c .before .before .before .before .before .enum-told .given .1, c .before .before .before .enum-told2 .given .1) (c .load-near .ensures)
 
 returns-3 : tie.Need-returns-3
-returns-3 c = rw (c .before .before .before .enum-told .given .1, c .before .enum-told3 .given .1) (c .load-bits2 .ensures)
+returns-3 c = rw (c .before .before .before .before .before .enum-told .given .1, c .before .before .before .enum-told2 .given .1) (c .load-bits .ensures)
 
 returns-4 : tie.Need-returns-4
-returns-4 c = rw (c .before .before .before .enum-told4 .given .1, c .before .enum-told5 .given .1) (c .load-bits3 .ensures)
+returns-4 c = rw (c .before .before .before .enum-told .given .1, c .before .enum-told3 .given .1) (c .load-bits2 .ensures)
 
 returns-5 : tie.Need-returns-5
-returns-5 c = rw (c .before .before .before .before .before .enum-told4 .given .1, c .before .before .before .enum-told6 .given .1) (c .load-near2 .ensures)
+returns-5 c = rw (c .before .before .before .enum-told4 .given .1, c .before .enum-told5 .given .1) (c .load-bits3 .ensures)
 
 returns-6 : tie.Need-returns-6
-returns-6 c = rw (c .before .before .before .before .before .enum-told4 .given .1, c .before .before .before .enum-told6 .given .1) (c .load-bits4 .ensures)
+returns-6 c = rw (c .before .before .before .before .before .enum-told4 .given .1, c .before .before .before .enum-told6 .given .1) (c .load-near2 .ensures)
+
+returns-7 : tie.Need-returns-7
+returns-7 c = rw (c .before .before .before .before .before .enum-told4 .given .1, c .before .before .before .enum-told6 .given .1) (c .load-bits4 .ensures)
 
 pub load-by-spec : {M : Type 1} → statement M
 load-by-spec =
     tie.close
     (tie.spec
+    sub-if1
+    piece-at-requires
+    returns
     enum-told
     enum-told-2
     sub-pays
@@ -100,9 +112,9 @@ load-by-spec =
     pays-requires-2
     load-near-requires-2
     load-bits-requires-4
-    returns
     returns-2
     returns-3
     returns-4
     returns-5
-    returns-6)
+    returns-6
+    returns-7)

@@ -1,4 +1,4 @@
--- `Number::of_bits`: up to half of the largest number the bits stand for themselves, above it for a number below 0.
+-- `Number::of_bits`: bits that stand for a number below 0 are more than what they lack of the largest number.
 use borrow.Author.Needs.{needs}
 use Rattle.rules.proofs.Number.of_bits.Statement.{statement}
 use Rattle.rules.proofs.Number.of_bits.Tie as tie
@@ -15,8 +15,8 @@ enum-told-2 c = search needs
 low-ones-requires : tie.Need-low-ones-requires
 low-ones-requires c κs = search needs
 
-sub-t9 : tie.Need-sub-t9
-sub-t9 c = search needs
+sub-below : tie.Need-sub-below
+sub-below c = search needs
 
 returns : tie.Need-returns
 unfolding readAs
@@ -32,4 +32,4 @@ returns-3 c = rw (c .before .before .enum-told2 .given .1) (signed-down _ _ (c .
 
 pub of-bits-spec : {M : Type 1} → statement M
 of-bits-spec =
-    tie.close (tie.spec enum-told enum-told-2 low-ones-requires sub-t9 returns returns-2 returns-3)
+    tie.close (tie.spec enum-told enum-told-2 low-ones-requires sub-below returns returns-2 returns-3)

@@ -1,25 +1,18 @@
--- `is_size`: the four numbers, one after another.
+-- `is_size`: a bit of 120 first, then a power of two.
 use Rattle.rules.proofs.value_calls.is_size.Statement.{statement}
 use Rattle.rules.proofs.value_calls.is_size.Tie as tie
+use mathlib.Core.Path.{sym}
 use native.Mathlib.Omega.{arith}
-use borrow.Author.Tests.{eq-eqb, ne-eqb}
-use Rattle.rules.specs.Fields.{isSize}
+use Rattle.rules.proofs.Sizes.{no-bit, some-bit, power}
 
 returns : tie.Need-returns
-unfolding isSize
-returns c = rw (eq-eqb (c .before .args .k) 8 (c .if1 .taken))
+returns c = sym (no-bit _ (c .if1 .taken))
+
+sub-result : tie.Need-sub-result
+sub-result c = some-bit _ (c .if1 .left)
 
 returns-2 : tie.Need-returns-2
-unfolding isSize
-returns-2 c = let k = c .before .before .args .k in rw (ne-eqb k 8 (λ h. omega arith), eq-eqb k 16 (omega arith))
-
-returns-3 : tie.Need-returns-3
-unfolding isSize
-returns-3 c = let k = c .before .before .before .args .k in rw (ne-eqb k 8 (λ h. omega arith), ne-eqb k 16 (λ h. omega arith), eq-eqb k 32 (omega arith))
-
-returns-4 : tie.Need-returns-4
-unfolding isSize
-returns-4 c = let k = c .before .before .before .args .k in rw (ne-eqb k 8 (λ h. omega arith), ne-eqb k 16 (λ h. omega arith), ne-eqb k 32 (λ h. omega arith))
+returns-2 c = power _ (c .if1 .left)
 
 pub is-size-spec : {M : Type 1} → statement M
-is-size-spec = tie.close (tie.spec returns returns-2 returns-3 returns-4)
+is-size-spec = tie.close (tie.spec returns sub-result returns-2)
