@@ -28,7 +28,7 @@ word-load W pos o ws at =
     (λ p l. ap (bitN (loadOf W o (own o) ws at W)) (sym (exponent-position W o at p l)) ∙ load-bit W pos o (own o) ws at W (position W o p) (position-lt W o p l)
     ∙ sym (row-bit W o ws (at + position W o p))))
 
-shl-mod : (y m h : ℕ) → (y * 2 ^ m) % 2 ^ (h + m) ≡ (y % 2 ^ h) * 2 ^ m
+pub shl-mod : (y m h : ℕ) → (y * 2 ^ m) % 2 ^ (h + m) ≡ (y % 2 ^ h) * 2 ^ m
 shl-mod y m h =
     mod-pow-add (y * 2 ^ m) h m
     ∙ ap (λ (z : ℕ). (z % 2 ^ h) * 2 ^ m + (y * 2 ^ m) % 2 ^ m) (shl-shr y m)

@@ -1,19 +1,20 @@
 -- A word moved along its indexes, two neighbouring words joined at a head, and so the bits of a row brought to the indexes of another word.
 -- Assumes nothing.
-use mathlib.Core.Path.{_≡_, refl, sym, ap, _∙_}
+use mathlib.Core.Path.{_≡_, refl, sym, ap, _∙_, subst}
 use mathlib.Core.List.{List}
 use Prim.Native.Nat.{ℕ, zero, suc, _+_, _-_, _*_, _/_, _%_, _^_, _≤_, _<_}
-use native.Mathlib.Nat.{add-comm, add-zero, mod-lt, div-add-mod'}
+use native.Mathlib.Nat.{add-comm, add-zero, mul-assoc, mod-lt, div-add-mod'}
 use native.Mathlib.Omega.{arith}
 use lib.ListN.{length, getD}
 use lib.Bits.{bitOr}
+use lib.Pow.{pow-add, shr-shr, mod-mod-pow}
 use Rattle.rules.specs.Types.{Order, Lsb0, Msb0}
 use Rattle.rules.specs.Bits.{bitN, ofBits}
 use Rattle.rules.specs.Positions.{position, row}
 use Rattle.rules.proofs.Bit.{bit-shr, bit-mod, bit-shl, bits-below}
 use Rattle.rules.proofs.Row.{Words, row-at, row-bit, position-lt, position-twice}
 use Rattle.rules.proofs.Digits.{bit-ofBits, ofBits-is, ofBits-lt}
-use Rattle.rules.proofs.Funnel.{funneled, funnel}
+use Rattle.rules.proofs.Funnel.{shl-mod, funneled, funnel}
 
 -- ---- moved k indexes down, and up
 
@@ -114,10 +115,25 @@ pub up-msb0 : (W : ℕ) (o : Order) (x k : ℕ) → o ≡ Msb0 → x / 2 ^ k ≡
 unfolding upOf
 up-msb0 W o x k e = rw e
 
-pub joined-lsb0 : (W : ℕ) (o : Order) (h x y : ℕ) → o ≡ Lsb0 → bitOr (x / 2 ^ h) (y * 2 ^ (W - h) % 2 ^ W) ≡ funneled W o h x y
-unfolding funneled
-joined-lsb0 W o h x y e = rw e
+-- two shifts are one by the sum, upward where the word has W bits
+shl-shl : (m k y j : ℕ) → y * 2 ^ j % 2 ^ (m + k) * 2 ^ k % 2 ^ (m + k) ≡ y * 2 ^ (j + k) % 2 ^ (m + k)
+shl-shl m k y j =
+    let e : k + m ≡ m + k = omega arith in
+    let drop : y * 2 ^ j % 2 ^ (m + k) % 2 ^ m ≡ y * 2 ^ j % 2 ^ m = ap (λ (x : ℕ). y * 2 ^ j % 2 ^ x % 2 ^ m) (sym e) ∙ mod-mod-pow (y * 2 ^ j) k m in
+    shl-mod (y * 2 ^ j % 2 ^ (m + k)) k m ∙ ap (λ (x : ℕ). x * 2 ^ k) drop ∙ sym (shl-mod (y * 2 ^ j) k m)
+    ∙ ap (λ (x : ℕ). x % 2 ^ (m + k)) (mul-assoc y (2 ^ j) (2 ^ k) ∙ ap (λ (x : ℕ). y * x) (sym (pow-add 2 j k)))
 
-pub joined-msb0 : (W : ℕ) (o : Order) (h x y : ℕ) → o ≡ Msb0 → bitOr (x * 2 ^ h % 2 ^ W) (y / 2 ^ (W - h)) ≡ funneled W o h x y
-unfolding funneled
-joined-msb0 W o h x y e = rw e
+-- the second word is shifted by one and then by the rest, k: no shift is by W, whatever h below W is
+module _ (W : ℕ) (o : Order) (h k x y : ℕ) (e : 1 + k + h ≡ W) where
+  pub joined-lsb0 : o ≡ Lsb0 → bitOr (x / 2 ^ h) (y * 2 ^ 1 % 2 ^ W * 2 ^ k % 2 ^ W) ≡ funneled W o h x y
+  unfolding funneled
+  joined-lsb0 p =
+      let m : W - h ≡ 1 + k = omega arith in
+      let w : W - k + k ≡ W = omega arith in
+      rw (p, m) (ap (bitOr (x / 2 ^ h)) (subst (λ (z : ℕ). y * 2 ^ 1 % 2 ^ z * 2 ^ k % 2 ^ z ≡ y * 2 ^ (1 + k) % 2 ^ z) w (shl-shl (W - k) k y 1)))
+
+  pub joined-msb0 : o ≡ Msb0 → bitOr (x * 2 ^ h % 2 ^ W) (y / 2 ^ 1 / 2 ^ k) ≡ funneled W o h x y
+  unfolding funneled
+  joined-msb0 p =
+      let m : W - h ≡ 1 + k = omega arith in
+      rw (p, m) (ap (bitOr (x * 2 ^ h % 2 ^ W)) (shr-shr y 1 k))

@@ -54,8 +54,8 @@ pub fn joined(order: Order, h: usize, x: u64, y: u64) -> u64
     ensures { λ r. ⌜ r ≡ funneled 64 order h x y ⌝ }
 {
     match order {
-        Order::Lsb0 => x >> h | y << (64 - h),
-        Order::Msb0 => x << h | y >> (64 - h),
+        Order::Lsb0 => x >> h | y << 1 << (63 - h),
+        Order::Msb0 => x << h | y >> 1 >> (63 - h),
     }
 }
 

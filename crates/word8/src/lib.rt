@@ -54,8 +54,8 @@ pub fn joined(order: Order, h: usize, x: u8, y: u8) -> u8
     ensures { λ r. ⌜ r ≡ funneled 8 order h x y ⌝ }
 {
     match order {
-        Order::Lsb0 => x >> h | y << (8 - h),
-        Order::Msb0 => x << h | y >> (8 - h),
+        Order::Lsb0 => x >> h | y << 1 << (7 - h),
+        Order::Msb0 => x << h | y >> 1 >> (7 - h),
     }
 }
 
