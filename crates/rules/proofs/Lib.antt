@@ -31,6 +31,7 @@ pub mod Filled
 pub mod RowPieces
 pub mod WholeWords
 pub mod Scratch
+pub mod InPlace
 pub mod Combine
 pub mod Agree
 -- searches

@@ -1,0 +1,104 @@
+-- `swap8::in_place` is three exchanges, each of which goes on where the one before stopped.
+use mathlib.Core.Path.{_≡_, refl}
+use Prim.Native.Nat.{ℕ, _+_, _-_, _*_, _/_, _%_}
+use native.Mathlib.Omega.{arith}
+use lib.Dec.{lit<}
+use borrow.Author.Needs.{needs}
+use denote.Ref.{now}
+use Rattle.rules.specs.Positions.{row}
+use Rattle.rules.proofs.RowPieces.{last-fits}
+use Rattle.rules.proofs.Scratch.{step-swap}
+use Rattle.swap8.proofs.in_place.Statement.{statement}
+use Rattle.swap8.proofs.in_place.Tie as tie
+
+-- equal heads stay so, x places on
+heads-on : (d s x : ℕ) → d % 8 ≡ s % 8 → (d + x) % 8 ≡ (s + x) % 8
+heads-on d s x e = omega arith
+
+lead-requires : tie.Need-lead-requires
+lead-requires c κs = search needs
+
+piece-requires : tie.Need-piece-requires
+piece-requires c κs = search needs
+
+sub-k : tie.Need-sub-k
+sub-k c = search needs
+
+add-whole : tie.Need-add-whole
+add-whole c = search needs
+
+add-whole-2 : tie.Need-add-whole-2
+add-whole-2 c = search needs
+
+whole-requires : tie.Need-whole-requires
+whole-requires c κs =
+    let at-lead = c .before .before .before .before .before .before .before .before .before in
+    ((λ h. at-lead .lead .ensures .2 (omega arith)), omega arith, omega arith, omega arith, omega arith, omega arith)
+
+mul-most : tie.Need-mul-most
+mul-most c = search needs
+
+add-most : tie.Need-add-most
+add-most c = search needs
+
+add-piece : tie.Need-add-piece
+add-piece c = search needs
+
+add-piece-2 : tie.Need-add-piece-2
+add-piece-2 c = search needs
+
+sub-piece : tie.Need-sub-piece
+sub-piece c = search needs
+
+piece-requires-2 : tie.Need-piece-requires-2
+piece-requires-2 c κs =
+    let at-lead = c .before .before .before .before .before .before .before .before .before .before .before .before .before .before .before .before in
+    let a = at-lead .before .before .before .args in
+    let r = at-lead .lead .result in
+    (heads-on (a .d) (a .s) (r + (a .len - r) / 8 * 8) (omega arith), last-fits 8 (lit< tt) (a .d) r (a .len) (at-lead .lead .ensures .2) (omega arith), omega arith, omega arith, omega arith, omega arith)
+
+same-length : tie.Need-same-length
+same-length c = search needs
+
+same-length-2 : tie.Need-same-length-2
+same-length-2 c = search needs
+
+returns : tie.Need-returns
+returns c =
+    let third = c .before .before .before .before in
+    let second = third .before .before .before .before .before .before .before in
+    let one = second .before .before .before .before .before .before .before in
+    let at-lead = one .before .before .before in
+    let a = at-lead .before .before .before .args in
+    let o = a .order in
+    let ws = now (a .left) in
+    let vs = now (a .right) in
+    let r = at-lead .lead .result in
+    let k = (a .len - r) / 8 in
+    let mine : ℕ → ℕ = λ j. row 8 o ws (a .d + j) in
+    let yours : ℕ → ℕ = λ j. row 8 o vs (a .s + j) in
+    let left = step-swap 8 (lit< tt) o ws vs (a .d) (a .s) r (k * 8) (r + k * 8) mine refl (omega arith) (one .piece .ensures .0) (one .piece .ensures .1) (second .whole .ensures o .0) in
+    let right = step-swap 8 (lit< tt) o vs ws (a .s) (a .d) r (k * 8) (r + k * 8) yours refl (omega arith) (one .piece .ensures .1) (one .piece .ensures .0) (second .whole .ensures o .1) in (
+      step-swap 8 (lit< tt) o ws vs (a .d) (a .s) (r + k * 8) (a .len - (r + k * 8)) (a .len) mine (omega arith) (omega arith) left right (third .piece2 .ensures .0),
+      step-swap 8 (lit< tt) o vs ws (a .s) (a .d) (r + k * 8) (a .len - (r + k * 8)) (a .len) yours (omega arith) (omega arith) right left (third .piece2 .ensures .1),
+    )
+
+pub in-place-spec : {M : Type 1} → statement M
+in-place-spec =
+    tie.close
+    (tie.spec
+    lead-requires
+    piece-requires
+    sub-k
+    add-whole
+    add-whole-2
+    whole-requires
+    mul-most
+    add-most
+    add-piece
+    add-piece-2
+    sub-piece
+    piece-requires-2
+    same-length
+    same-length-2
+    returns)
