@@ -1,76 +1,167 @@
-// Copy inside one buffer of words of 8 bits, block by block through scratch words: downward exactly if the source range contains the destination.
+// Copy inside one buffer of words of 8 bits, in place: a piece, whole words, a piece; downward exactly if the source range contains the
+// destination.
 use checks::check_move;
-use copy8::copy_row;
 use rules::Order;
 use rules::Span;
 use rules::Verdict;
 use rules::Width;
 use rules::WriteAnswer;
-use word8::least;
+use word8::fetch;
+use word8::joined;
+use word8::lead;
+use word8::put;
 ghost use mathlib.Core.Path.{_≡_};
 ghost use mathlib.Core.Logic.{_⊎_};
 ghost use Prim.Native.Nat.{_+_, _*_, _%_, _≤_, _<_};
 ghost use lib.ListN.{length};
+ghost use Rattle.rules.specs.declared.Order.{Order};
 ghost use Rattle.rules.specs.Rows.{moved};
 ghost use Rattle.rules.specs.Calls.{copyInside, answer, after};
 ghost use Rattle.rules.specs.Answers.{writeSays, Gives};
+ghost use Rattle.rules.proofs.Row.{Words};
 
-// n bits from place `from` on, all read before one is written.
-fn block(words: &mut [u8], order: Order, from: usize, to: usize, n: usize, scratch: &mut [u8])
-    requires { ⌜ (from + n ≤ length (now words) * 8) × (to + n ≤ length (now words) * 8) × (from % 8 + n ≤ length (now scratch) * 8) × (length (now words) ≤ 65536) × (length (now scratch) ≤ 65536) ⌝ }
+// n bits within one word of the destination, all read before one is written.
+fn piece(words: &mut [u8], order: Order, from: usize, to: usize, n: usize)
+    requires { ⌜ (to % 8 + n ≤ 8) × (from + n ≤ length (now words) * 8) × (to + n ≤ length (now words) * 8) ⌝ }
     ensures { λ _. ⌜ now (words .exit) ≡ moved 8 order (now (words .entry)) from to n ⌝ }
 {
-    let g = from % 8;
-    copy_row(scratch, order, g, words, from, n);
-    copy_row(words, order, to, scratch, g, n);
+    if n == 0 {
+        return;
+    }
+    let v = fetch(words, order, from, to % 8, n);
+    put(words, order, to, n, v);
 }
 
-// Upward, the first block first: for a source range that does not contain the destination.
-fn move_up(words: &mut [u8], order: Order, from: usize, to: usize, n: usize, scratch: &mut [u8])
-    requires { ⌜ (from + n ≤ length (now words) * 8) × (to + n ≤ length (now words) * 8) × ((to ≤ from) ⊎ (from + n ≤ to)) × (length (now words) ≤ 65536) × (length (now scratch) ≡ 1024) ⌝ }
-    ensures { λ _. ⌜ now (words .exit) ≡ moved 8 order (now (words .entry)) from to n ⌝ }
+// k words from word b on, the first one first, become those from word a on.
+fn plain_up(words: &mut [u8], b: usize, a: usize, k: usize)
+    requires { ⌜ (b + k ≤ length (now words)) × (a + k ≤ length (now words)) × ((a ≤ b) ⊎ (b + k ≤ a)) × (length (now words) ≤ 65536) ⌝ }
+    ensures { λ _. ⌜ ((o : Order) → Words 8 (now (words .entry)) → now (words .exit) ≡ moved 8 o (now (words .entry)) (b * 8 + 0) (a * 8) (k * 8)) ⌝ }
 {
     let mut i: usize = 0;
-    while i < n {
-        let m = least(n - i, 8184);
-        block(words, order, from + i, to + i, m, scratch);
-        i = i + m;
+    while i < k {
+        words[a + i] = words[b + i];
+        i = i + 1;
     }
 }
 
-// Downward, the last block first: for a destination at or past the source's start.
-fn move_down(words: &mut [u8], order: Order, from: usize, to: usize, n: usize, scratch: &mut [u8])
-    requires { ⌜ (from + n ≤ length (now words) * 8) × (to + n ≤ length (now words) * 8) × (from ≤ to) × (length (now words) ≤ 65536) × (length (now scratch) ≡ 1024) ⌝ }
+// The same with the words at head h of word b.
+fn joined_up(words: &mut [u8], order: Order, h: usize, b: usize, a: usize, k: usize)
+    requires { ⌜ (1 ≤ h) × (h < 8) × (b + k + 1 ≤ length (now words)) × (a + k ≤ length (now words)) × ((a ≤ b) ⊎ (b + k + 1 ≤ a)) × (length (now words) ≤ 65536) ⌝ }
+    ensures { λ _. ⌜ now (words .exit) ≡ moved 8 order (now (words .entry)) (b * 8 + h) (a * 8) (k * 8) ⌝ }
+{
+    let mut i: usize = 0;
+    while i < k {
+        words[a + i] = joined(order, h, words[b + i], words[b + i + 1]);
+        i = i + 1;
+    }
+}
+
+// k words from word b on, the last one first, become those from word a on.
+fn plain_down(words: &mut [u8], b: usize, a: usize, k: usize)
+    requires { ⌜ (b + k ≤ length (now words)) × (a + k ≤ length (now words)) × (b ≤ a) × (length (now words) ≤ 65536) ⌝ }
+    ensures { λ _. ⌜ ((o : Order) → Words 8 (now (words .entry)) → now (words .exit) ≡ moved 8 o (now (words .entry)) (b * 8 + 0) (a * 8) (k * 8)) ⌝ }
+{
+    let mut i: usize = k;
+    while 0 < i {
+        i = i - 1;
+        words[a + i] = words[b + i];
+    }
+}
+
+// The same with the words at head h of word b.
+fn joined_down(words: &mut [u8], order: Order, h: usize, b: usize, a: usize, k: usize)
+    requires { ⌜ (1 ≤ h) × (h < 8) × (b + k + 1 ≤ length (now words)) × (a + k ≤ length (now words)) × (b + 1 ≤ a) × (length (now words) ≤ 65536) ⌝ }
+    ensures { λ _. ⌜ now (words .exit) ≡ moved 8 order (now (words .entry)) (b * 8 + h) (a * 8) (k * 8) ⌝ }
+{
+    let mut i: usize = k;
+    while 0 < i {
+        i = i - 1;
+        words[a + i] = joined(order, h, words[b + i], words[b + i + 1]);
+    }
+}
+
+// k whole words of the destination, upward. Where word b is word a, the compiler is shown so: its loop over both is then a vector loop.
+fn whole_up(words: &mut [u8], order: Order, from: usize, to: usize, k: usize)
+    requires { ⌜ (1 ≤ k → to % 8 ≡ 0) × (from + k * 8 ≤ length (now words) * 8) × (to + k * 8 ≤ length (now words) * 8) × ((to ≤ from) ⊎ (from + k * 8 ≤ to)) × (length (now words) ≤ 65536) ⌝ }
+    ensures { λ _. ⌜ now (words .exit) ≡ moved 8 order (now (words .entry)) from to (k * 8) ⌝ }
+{
+    if k == 0 {
+        return;
+    }
+    let a = to / 8;
+    let b = from / 8;
+    let h = from % 8;
+    if h == 0 {
+        plain_up(words, b, a, k);
+        return;
+    }
+    if a == b {
+        joined_up(words, order, h, a, a, k);
+        return;
+    }
+    joined_up(words, order, h, b, a, k);
+}
+
+// The same downward, and so where word b is the one before word a.
+fn whole_down(words: &mut [u8], order: Order, from: usize, to: usize, k: usize)
+    requires { ⌜ (1 ≤ k → to % 8 ≡ 0) × (from + k * 8 ≤ length (now words) * 8) × (to + k * 8 ≤ length (now words) * 8) × (from ≤ to) × (length (now words) ≤ 65536) ⌝ }
+    ensures { λ _. ⌜ now (words .exit) ≡ moved 8 order (now (words .entry)) from to (k * 8) ⌝ }
+{
+    if k == 0 {
+        return;
+    }
+    let a = to / 8;
+    let b = from / 8;
+    let h = from % 8;
+    if h == 0 {
+        plain_down(words, b, a, k);
+        return;
+    }
+    if a == b + 1 {
+        joined_down(words, order, h, b, b + 1, k);
+        return;
+    }
+    joined_down(words, order, h, b, a, k);
+}
+
+// Upward, the first bits first: for a source range that does not contain the destination.
+fn move_up(words: &mut [u8], order: Order, from: usize, to: usize, n: usize)
+    requires { ⌜ (from + n ≤ length (now words) * 8) × (to + n ≤ length (now words) * 8) × ((to ≤ from) ⊎ (from + n ≤ to)) × (length (now words) ≤ 65536) ⌝ }
     ensures { λ _. ⌜ now (words .exit) ≡ moved 8 order (now (words .entry)) from to n ⌝ }
 {
-    let mut left: usize = n;
-    while 0 < left {
-        let m = least(left, 8184);
-        left = left - m;
-        block(words, order, from + left, to + left, m, scratch);
-    }
+    let first = lead(to, n);
+    piece(words, order, from, to, first);
+    let k = (n - first) / 8;
+    whole_up(words, order, from + first, to + first, k);
+    let most = first + k * 8;
+    piece(words, order, from + most, to + most, n - most);
 }
 
-// n bits from place `from` on become those from place `to` on: a few in one block, more in the direction that the overlap asks.
+// Downward, the last bits first: for a destination at or past the source's start.
+fn move_down(words: &mut [u8], order: Order, from: usize, to: usize, n: usize)
+    requires { ⌜ (from + n ≤ length (now words) * 8) × (to + n ≤ length (now words) * 8) × (from ≤ to) × (length (now words) ≤ 65536) ⌝ }
+    ensures { λ _. ⌜ now (words .exit) ≡ moved 8 order (now (words .entry)) from to n ⌝ }
+{
+    let first = lead(to, n);
+    let k = (n - first) / 8;
+    let most = first + k * 8;
+    piece(words, order, from + most, to + most, n - most);
+    whole_down(words, order, from + first, to + first, k);
+    piece(words, order, from, to, first);
+}
+
+// n bits from place `from` on become those from place `to` on, in the direction that the overlap asks.
 fn move_row(words: &mut [u8], order: Order, from: usize, to: usize, n: usize)
     requires { ⌜ (from + n ≤ length (now words) * 8) × (to + n ≤ length (now words) * 8) × (length (now words) ≤ 65536) ⌝ }
     ensures { λ _. ⌜ now (words .exit) ≡ moved 8 order (now (words .entry)) from to n ⌝ }
 {
-    if n <= 120 {
-        let mut few = [0u8; 16];
-        block(words, order, from, to, n, &mut few);
-        return;
+    if from <= to {
+        if to < from + n {
+            move_down(words, order, from, to, n);
+            return;
+        }
     }
-    let mut scratch = [0u8; 1024];
-    if to < from {
-        move_up(words, order, from, to, n, &mut scratch);
-        return;
-    }
-    if from + n <= to {
-        move_up(words, order, from, to, n, &mut scratch);
-        return;
-    }
-    move_down(words, order, from, to, n, &mut scratch);
+    move_up(words, order, from, to, n);
 }
 
 // Bit destination + i of the span becomes the old bit start + i, for all i below count at once: 1 to 3, 10.

@@ -1,91 +1,93 @@
--- `inside8::move_up`: the first i bits are moved; a block more does not read what was written.
-use mathlib.Core.Path.{_≡_, refl, ap, _∙_}
+-- `inside8::move_up` is three moves, each of which goes on where the one before stopped.
+use mathlib.Core.Path.{refl, _∙_}
 use mathlib.Core.Logic.{inl, inr, ⊎-elim}
-use Prim.Native.Nat.{_-_, _≤_}
+use Prim.Native.Nat.{_+_, _-_, _*_, _/_}
 use native.Mathlib.Omega.{arith}
-use lib.ListN.{length}
 use lib.Dec.{lit<}
 use borrow.Author.Needs.{needs}
 use denote.Ref.{now}
-use Rattle.rules.specs.Rows.{moved}
-use Rattle.rules.proofs.Scratch.{moved-none, step-up}
+use Rattle.rules.proofs.RowPieces.{last-fits}
+use Rattle.rules.proofs.Scratch.{step-up}
+use Rattle.rules.proofs.InPlace.{moved-at}
 use Rattle.inside8.proofs.move_up.Statement.{statement}
 use Rattle.inside8.proofs.move_up.Tie as tie
 
-abbrev Inv-loop : tie.InvT-loop
-Inv-loop words₀ order from to n scratch₀ i₀ words scratch i = (i ≤ n) × (length words ≡ length words₀) × (length scratch ≡ length scratch₀) × (words ≡ moved 8 order words₀ from to i)
+lead-requires : tie.Need-lead-requires
+lead-requires c κs = search needs
 
-abbrev μ-loop : tie.MeasureT-loop
-μ-loop words₀ order from to n scratch₀ i₀ words scratch i = n - i
+piece-requires : tie.Need-piece-requires
+piece-requires c κs = search needs
 
-loop-holds : tie.Need-loop-holds Inv-loop μ-loop
-loop-holds c =
-    let a = c .before .before .args in
-    (omega arith, refl, refl, moved-none 8 (lit< tt) (a .order) (now (a .words)) (a .from) (a .to) 0 refl (λ k. c .before .slice-known .given k .fits))
+sub-k : tie.Need-sub-k
+sub-k c = search needs
 
-sub-least : tie.Need-sub-least Inv-loop μ-loop
-sub-least c = omega arith
+add-whole-up : tie.Need-add-whole-up
+add-whole-up c = search needs
 
-least-requires : tie.Need-least-requires Inv-loop μ-loop
-least-requires c κs = search needs
+add-whole-up-2 : tie.Need-add-whole-up-2
+add-whole-up-2 c = search needs
 
-add-block : tie.Need-add-block Inv-loop μ-loop
-add-block c = omega arith
+whole-up-requires : tie.Need-whole-up-requires
+whole-up-requires c κs =
+    let at-lead = c .before .before .before .before .before in
+    let start = at-lead .before .before in
+    ((λ h. at-lead .lead .ensures .2 (omega arith)), omega arith, omega arith, ⊎-elim (λ l. inl (omega arith)) (λ l. inr (omega arith)) (start .pre .2), omega arith)
 
-add-block-2 : tie.Need-add-block-2 Inv-loop μ-loop
-add-block-2 c = omega arith
+mul-most : tie.Need-mul-most
+mul-most c = search needs
 
-block-requires : tie.Need-block-requires Inv-loop μ-loop
-block-requires c κs = omega arith
+add-most : tie.Need-add-most
+add-most c = search needs
 
-add-i : tie.Need-add-i Inv-loop μ-loop
-add-i c = omega arith
+add-piece : tie.Need-add-piece
+add-piece c = search needs
 
-loop-less : tie.Need-loop-less Inv-loop μ-loop
-loop-less c = omega arith
+add-piece-2 : tie.Need-add-piece-2
+add-piece-2 c = search needs
 
-loop-again : tie.Need-loop-again Inv-loop μ-loop
-loop-again c =
-    let call = c .before .before .before .before in
-    let count = call .before .before .before in
-    let turn = count .before .before in
-    let start = turn .before .before .before in
-    let a = start .args in (
-      omega arith,
-      omega arith,
-      omega arith,
-      step-up 8 (lit< tt) (a .order) (now (a .words)) (a .from) (a .to) (turn .loop .i) (count .least .result) (omega arith) (omega arith)
-          (⊎-elim (λ l. inl l) (λ l. inr (omega arith)) (start .pre .2)) (turn .loop .inv .3) (call .block .ensures),
-    )
+sub-piece : tie.Need-sub-piece
+sub-piece c = search needs
 
-same-length : tie.Need-same-length Inv-loop μ-loop
-same-length c = omega arith
+piece-requires-2 : tie.Need-piece-requires-2
+piece-requires-2 c κs =
+    let at-lead = c .before .before .before .before .before .before .before .before .before in
+    let a = at-lead .before .before .args in
+    (last-fits 8 (lit< tt) (a .to) (at-lead .lead .result) (a .n) (at-lead .lead .ensures .2) (omega arith), omega arith, omega arith)
 
-same-length-2 : tie.Need-same-length-2 Inv-loop μ-loop
-same-length-2 c = omega arith
+same-length : tie.Need-same-length
+same-length c = search needs
 
-returns : tie.Need-returns Inv-loop μ-loop
+returns : tie.Need-returns
 returns c =
-    let turn = c .before in
-    let a = turn .before .before .before .args in
-    let e : turn .loop .i ≡ a .n = omega arith in
-    turn .loop .inv .3 ∙ ap (moved 8 (a .order) (now (a .words)) (a .from) (a .to)) e
+    let third = c .before .before in
+    let second = third .before .before .before .before in
+    let one = second .before .before .before .before in
+    let at-lead = one .before .before in
+    let start = at-lead .before .before in
+    let a = start .args in
+    let r = at-lead .lead .result in
+    let k = (a .n - r) / 8 in
+    let most = r + k * 8 in
+    step-up 8 (lit< tt) (a .order) (now (a .words)) (a .from) (a .to) most (a .n - most) (omega arith) (omega arith) (⊎-elim (λ l. inl l) (λ l. inr (omega arith)) (start .pre .2))
+    (step-up 8 (lit< tt) (a .order) (now (a .words)) (a .from) (a .to) r (k * 8) (omega arith) (omega arith) (⊎-elim (λ l. inl l) (λ l. inr (omega arith)) (start .pre .2)) (one .piece .ensures) (second .whole-up .ensures))
+    (third .piece2 .ensures)
+    ∙ moved-at 8 (a .order) (now (a .words)) refl refl (omega arith)
 
 pub move-up-spec : {M : Type 1} → statement M
 move-up-spec =
     tie.close
     (tie.spec
-    Inv-loop
-    μ-loop
-    loop-holds
-    sub-least
-    least-requires
-    add-block
-    add-block-2
-    block-requires
-    add-i
-    loop-less
-    loop-again
+    lead-requires
+    piece-requires
+    sub-k
+    add-whole-up
+    add-whole-up-2
+    whole-up-requires
+    mul-most
+    add-most
+    add-piece
+    add-piece-2
+    sub-piece
+    piece-requires-2
     same-length
-    same-length-2
     returns)
