@@ -62,12 +62,12 @@ fn equal_plain(left: &[u64], a: usize, k: usize, right: &[u64], b: usize) -> boo
     ensures { λ r. ⌜ Tells r k (λ i. getD (now (left .entry)) (a + i) 0) (λ i. getD (now (right .entry)) (b + i) 0) ⌝ }
 {
     let mut i: usize = 0;
-    while 16 <= k - i {
-        let v = differ_plain(left, a + i, 16, right, b + i);
+    while 64 <= k - i {
+        let v = differ_plain(left, a + i, 64, right, b + i);
         if v != 0 {
             return false;
         }
-        i = i + 16;
+        i = i + 64;
     }
     let v = differ_plain(left, a + i, k - i, right, b + i);
     v == 0
@@ -87,12 +87,12 @@ fn equal_joined(
     ensures { λ r. ⌜ Tells r k (λ i. getD (now (left .entry)) (a + i) 0) (λ i. funneled 64 order h (getD (now (right .entry)) (b + i) 0) (getD (now (right .entry)) (b + i + 1) 0)) ⌝ }
 {
     let mut i: usize = 0;
-    while 16 <= k - i {
-        let v = differ_joined(left, a + i, 16, order, right, b + i, h);
+    while 64 <= k - i {
+        let v = differ_joined(left, a + i, 64, order, right, b + i, h);
         if v != 0 {
             return false;
         }
-        i = i + 16;
+        i = i + 64;
     }
     let v = differ_joined(left, a + i, k - i, order, right, b + i, h);
     v == 0
