@@ -57,6 +57,31 @@ pub fn contest<T: Width>(job: Job, order: u8, kind: Kind) -> Contest<T> {
     Contest { buffers: Buffers::random(WORDS), works, repeat: FIELDS }
 }
 
+/// The same of Lsb0 le fields, unsigned, taken by Rattle code that knows so much of them, all in one call.
+pub fn known_contest<T: Width>(job: Job, k: usize) -> Contest<T> {
+    let kind = Kind { k, significance: 0, sign: 0 };
+    let places = places::<T>(0, k);
+    let (at, heads): (Vec<usize>, Vec<usize>) = places.iter().map(|row| (row.word, row.head)).unzip();
+    let (library, bitvec): (Work<T>, Work<T>) = match job {
+        Job::Load => (
+            Box::new(move |buffers| T::known_loads(&buffers.left, &at, &heads, k)),
+            bitvec_load::<T, Lsb0>(places, kind),
+        ),
+        Job::Store => (
+            Box::new(move |buffers| {
+                T::known_stores(&mut buffers.left, &at, &heads, k, black_box(0x5A));
+                0
+            }),
+            bitvec_store::<T, Lsb0>(places, kind),
+        ),
+    };
+    Contest {
+        buffers: Buffers::random(WORDS),
+        works: vec![(Who::Library, library), (Who::Bitvec, bitvec)],
+        repeat: FIELDS,
+    }
+}
+
 /// Takes all fields; answers a mix of their numbers.
 fn each_load<T: Width>(places: Vec<Row>, load: impl Fn(&[T], Row) -> u64 + 'static) -> Work<T> {
     Box::new(move |buffers| places.iter().fold(0, |mix: u64, &row| mix.rotate_left(1) ^ load(&buffers.left, row)))

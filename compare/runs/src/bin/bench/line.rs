@@ -6,6 +6,7 @@ use crate::contest::{Times, Who};
 #[derive(Clone, Copy, Debug, Eq, PartialEq)]
 pub enum Part {
     Fields,
+    KnownFields,
     ShortRows,
     Rows,
     Searches,
@@ -13,12 +14,14 @@ pub enum Part {
 }
 
 impl Part {
-    pub const ALL: [Part; 5] = [Part::Fields, Part::ShortRows, Part::Rows, Part::Searches, Part::FirstWord];
+    pub const ALL: [Part; 6] =
+        [Part::Fields, Part::KnownFields, Part::ShortRows, Part::Rows, Part::Searches, Part::FirstWord];
 
     /// Its title.
     pub fn title(self) -> &'static str {
         match self {
             Part::Fields => "Fields at odd heads",
+            Part::KnownFields => "The same called from Rattle, order and significance known",
             Part::ShortRows => "Rows of 100 bits",
             Part::Rows => "Rows",
             Part::Searches => "Searches of sparse rows, the bit at the far end",

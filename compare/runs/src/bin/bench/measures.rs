@@ -26,6 +26,9 @@ pub const LONGEST: usize = 1 << 16;
 pub fn measure<T: Width>(lines: &mut Vec<Line>, effort: Effort) {
     for order in 0..2 {
         fields::<T>(lines, effort, order);
+        if order == 0 {
+            known_fields::<T>(lines, effort);
+        }
         short_rows::<T>(lines, effort, order);
         for words in lengths::<T>(effort) {
             long_rows::<T>(lines, effort, order, words);
@@ -71,6 +74,20 @@ fn fields<T: Width>(lines: &mut Vec<Line>, effort: Effort, order: u8) {
         if sign == 0 {
             measure(fields::Job::Store, field_name("store", kind), 1.1, 1.3);
         }
+    }
+}
+
+/// The same of Lsb0 le fields, by Rattle code that knows so much of them.
+fn known_fields<T: Width>(lines: &mut Vec<Line>, effort: Effort) {
+    for (k, job, name) in [
+        (8, fields::Job::Load, "load u8 le"),
+        (8, fields::Job::Store, "store u8 le"),
+        (64, fields::Job::Load, "load u64 le"),
+        (64, fields::Job::Store, "store u64 le"),
+    ] {
+        let times = fields::known_contest::<T>(job, k).run(effort.rounds);
+        let (width, bars) = (<T as Plain>::WIDTH, vec![bar(Who::Bitvec, 2.0)]);
+        lines.push(Line { part: Part::KnownFields, job: name, width, order: 0, words: 8192, bits: k, times, bars });
     }
 }
 

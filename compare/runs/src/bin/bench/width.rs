@@ -48,17 +48,37 @@ pub struct PlainRust;
 pub trait Width: Lent + Plain {
     type Library: Calls<Self>;
     type PlainRust: Calls<Self>;
+
+    /// The fields of k bits that begin at a head of a word each, loaded by Rattle code: a mix of their numbers.
+    fn known_loads(words: &[Self], places: &[usize], heads: &[usize], k: usize) -> u64;
+
+    /// A value stored in each of them.
+    fn known_stores(words: &mut [Self], places: &[usize], heads: &[usize], k: usize, value: u64);
 }
 
-impl Width for u8 {
-    type Library = Library;
-    type PlainRust = PlainRust;
+macro_rules! width {
+    ($word:ty, $loads:path, $stores:path) => {
+        impl Width for $word {
+            type Library = Library;
+            type PlainRust = PlainRust;
+
+            fn known_loads(words: &[$word], places: &[usize], heads: &[usize], k: usize) -> u64 {
+                let mut mix = 0;
+                let (at, fields, also) = (places.as_ptr(), places.len(), heads.len());
+                unsafe { $loads(words.as_ptr(), words.len(), at, fields, heads.as_ptr(), also, k, &mut mix) };
+                mix
+            }
+
+            fn known_stores(words: &mut [$word], places: &[usize], heads: &[usize], k: usize, value: u64) {
+                let (at, fields, also) = (places.as_ptr(), places.len(), heads.len());
+                unsafe { $stores(words.as_mut_ptr(), words.len(), at, fields, heads.as_ptr(), also, k, value) };
+            }
+        }
+    };
 }
 
-impl Width for u64 {
-    type Library = Library;
-    type PlainRust = PlainRust;
-}
+width!(u8, known::known8_loads, known::known8_stores);
+width!(u64, known::known64_loads, known::known64_stores);
 
 /// The calls of one of the two. Each answers a number that shows a refusal too.
 pub trait Calls<T>: 'static {
