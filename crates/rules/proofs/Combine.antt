@@ -117,6 +117,13 @@ module _ (W : ℕ) (pos : 0 < W) (o : Order) (ws : List ℕ) (d op : ℕ) (R : �
       ∙ wordwise-bit W op (getD ws (d / W) 0) x (position W o (d % W + i)) (position-lt W o (d % W + i) (omega arith))
       ∙ ap₂ (applied op) (sym (row-near W o ws d i (omega arith))) (carries i l))
 
+  -- a piece put from a word that carries the bits of R
+  pub piece-carried : (n v : ℕ) {out : List ℕ} → Carries W o v (d % W) n R
+      → out ≡ spliced W o ws d n (λ i. applied op (row W o ws (d + i)) (bitN v (position W o (d % W + i)))) → out ≡ spliced W o ws d n (λ i. applied op (row W o ws (d + i)) (R i))
+  piece-carried n v same e =
+      e ∙ splice-eq W pos o ws d n (λ i. applied op (row W o ws (d + i)) (bitN v (position W o (d % W + i)))) (λ i. applied op (row W o ws (d + i)) (R i))
+      (λ i l. ap (applied op (row W o ws (d + i))) (same i l))
+
   pub words-combined : (left : List ℕ) (a n k : ℕ) → n ≡ k → a * W ≡ d → a + k ≤ length ws → Words W ws → length left ≡ length (midOf a n ws) → (y : ℕ → ℕ)
       → ((i : ℕ) → i < k → getD left i 0 ≡ wordwise W op (getD (midOf a n ws) i 0) (y i))
       → ((i : ℕ) → i < k → (p : ℕ) → p < W → bitN (y i) p ≡ R (i * W + position W o p))

@@ -81,6 +81,12 @@ module _ (W : ℕ) (o : Order) (src : List ℕ) (s h n : ℕ) (fits : h + n ≤ 
       ap (λ (x : ℕ). bitN x (position W o (h + i))) e ∙ up-bit W (getD src 0 0) (h - s) (h + i) (omega arith) o (omega arith)
       ∙ ap (λ (x : ℕ). bitN (getD src 0 0) (position W o x)) d ∙ sym (ap (row W o src) z ∙ row-at W o src 0 (s + i) (omega arith))
 
+  -- from one word as it stands
+  pub fetch-same : h ≤ s → (s - h) % W ≡ 0 → r ≡ getD src ((s - h) / W) 0 → Carries W o r h n (λ i. row W o src (s + i))
+  fetch-same l z e i m =
+      let d : s + i ≡ (s - h) / W * W + (h + i) = omega (arith, z, div-add-mod' (s - h) W) in
+      ap (λ (x : ℕ). bitN x (position W o (h + i))) e ∙ sym (ap (row W o src) d ∙ row-at W o src ((s - h) / W) (h + i) (omega arith))
+
   -- from one word, moved down
   pub fetch-down : h ≤ s → (s - h) % W + h + n ≤ W → r ≡ downOf W o (getD src ((s - h) / W) 0) ((s - h) % W) → Carries W o r h n (λ i. row W o src (s + i))
   fetch-down l f e i m =

@@ -2,7 +2,7 @@
 use mathlib.Core.Path.{_≡_, refl, sym, ap, _∙_}
 use mathlib.Core.List.{List}
 use Prim.Native.Nat.{ℕ, zero, suc, _+_, _-_, _*_, _/_, _%_, _^_, _≤_, _<_}
-use native.Mathlib.Nat.{mod-lt, div-add-mod', add-mul-mod-self-right, zero-div}
+use native.Mathlib.Nat.{add-assoc, mod-lt, div-add-mod', add-mul-mod-self-right, zero-div}
 use native.Mathlib.Decide.{decLt}
 use native.Mathlib.Omega.{arith}
 use lib.ListN.{length, getD}
@@ -17,6 +17,10 @@ pub row-near : (W : ℕ) (o : Order) (ws : List ℕ) (d i : ℕ) → d % W + i <
 row-near W o ws d i l =
     let e : d + i ≡ d / W * W + (d % W + i) = omega (arith, div-add-mod' d W) in
     ap (row W o ws) e ∙ row-at W o ws (d / W) (d % W + i) l
+
+-- a word's start, k words on
+pub on-word : (W d r k : ℕ) → (d + r) % W ≡ 0 → (d + (r + k * W)) % W ≡ 0
+on-word W d r k e = ap (λ (x : ℕ). x % W) (sym (add-assoc d r (k * W))) ∙ add-mul-mod-self-right (d + r) k W ∙ e
 
 -- what is left after a first piece of r bits and the whole words lies within one word
 pub last-fits : (W : ℕ) → 0 < W → (d r len : ℕ) → (r < len → (d + r) % W ≡ 0) → r ≤ len → (d + (r + (len - r) / W * W)) % W + (len - (r + (len - r) / W * W)) ≤ W

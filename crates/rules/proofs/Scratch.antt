@@ -1,4 +1,4 @@
--- Rows moved block by block through a scratch buffer: inside one buffer, and between two that are swapped. Assumes nothing.
+-- Rows moved run by run: inside one buffer, and between two that are swapped, where one waits in a scratch buffer. Assumes nothing.
 use mathlib.Core.Path.{_≡_, refl, sym, ap, _∙_}
 use mathlib.Core.Logic.{_⊎_, inl, inr}
 use mathlib.Core.List.{List}
@@ -20,13 +20,6 @@ module _ (W : ℕ) (pos : 0 < W) (o : Order) where
       → (i : ℕ) → i < n → row W o t (g + i) ≡ row W o ws (from + i)
   held ts ws g from n fits e i l =
       ap (λ (x : List ℕ). row W o x (g + i)) e ∙ spliced-inside W pos o ts g n (λ i. row W o ws (from + i)) fits i l ∙ row-bit W o ws (from + i)
-
-  -- copied out, and copied back to another place: moved
-  pub moved-through : (ts ws : List ℕ) (g from to n : ℕ) {t out : List ℕ} → g + n ≤ length ts * W → t ≡ spliced W o ts g n (λ i. row W o ws (from + i))
-      → out ≡ spliced W o ws to n (λ i. row W o t (g + i)) → out ≡ moved W o ws from to n
-  unfolding moved
-  moved-through ts ws g from to n {t} fits e f =
-      f ∙ splice-eq W pos o ws to n (λ i. row W o t (g + i)) (λ i. row W o ws (from + i)) (held ts ws g from n fits e)
 
   -- nothing moved
   pub moved-none : (ws : List ℕ) (from to n : ℕ) → n ≡ 0 → Words W ws → ws ≡ moved W o ws from to n

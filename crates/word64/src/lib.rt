@@ -104,6 +104,9 @@ pub fn fetch(source: &[u64], order: Order, s: usize, h: usize, n: usize) -> u64
     }
     let b = (s - h) / 64;
     let g = (s - h) % 64;
+    if g == 0 {
+        return source[b];
+    }
     if g + h + n <= 64 {
         return down(order, source[b], g);
     }

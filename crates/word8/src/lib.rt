@@ -104,6 +104,9 @@ pub fn fetch(source: &[u8], order: Order, s: usize, h: usize, n: usize) -> u8
     }
     let b = (s - h) / 8;
     let g = (s - h) % 8;
+    if g == 0 {
+        return source[b];
+    }
     if g + h + n <= 8 {
         return down(order, source[b], g);
     }
