@@ -62,16 +62,50 @@ fn whole(words: &mut [u64], order: Order, d: usize, source: &[u64], s: usize, k:
     funnel_words(&mut words[a..e], order, &source[b..f], h);
 }
 
-// n bits within one word of the target.
-fn piece(words: &mut [u64], order: Order, d: usize, source: &[u64], s: usize, n: usize)
+// n bits within one word of the target, of which there is one at least.
+fn bits(words: &mut [u64], order: Order, d: usize, source: &[u64], s: usize, n: usize)
+    requires { ⌜ (1 ≤ n) × (d % 64 + n ≤ 64) × (d + n ≤ length (now words) * 64) × (s + n ≤ length (now source) * 64) ⌝ }
+    ensures { λ _. ⌜ now (words .exit) ≡ spliced 64 order (now (words .entry)) d n (λ i. row 64 order (now (source .entry)) (s + i)) ⌝ }
+{
+    let v = fetch(source, order, s, d % 64, n);
+    put(words, order, d, n, v);
+}
+
+// The first piece: n bits within one word of the target, with code of its own for each order.
+fn first_piece(words: &mut [u64], order: Order, d: usize, source: &[u64], s: usize, n: usize)
     requires { ⌜ (d % 64 + n ≤ 64) × (d + n ≤ length (now words) * 64) × (s + n ≤ length (now source) * 64) ⌝ }
     ensures { λ _. ⌜ now (words .exit) ≡ spliced 64 order (now (words .entry)) d n (λ i. row 64 order (now (source .entry)) (s + i)) ⌝ }
 {
     if n == 0 {
         return;
     }
-    let v = fetch(source, order, s, d % 64, n);
-    put(words, order, d, n, v);
+    match order {
+        Order::Lsb0 => {
+            bits(words, Order::Lsb0, d, source, s, n);
+        }
+        Order::Msb0 => {
+            bits(words, Order::Msb0, d, source, s, n);
+        }
+    }
+}
+
+// The last piece: n bits from a word's start on.
+fn last_piece(words: &mut [u64], order: Order, d: usize, source: &[u64], s: usize, n: usize)
+    requires { ⌜ (1 ≤ n → d % 64 ≡ 0) × (n ≤ 64) × (d + n ≤ length (now words) * 64) × (s + n ≤ length (now source) * 64) × (length (now words) ≤ 65536) ⌝ }
+    ensures { λ _. ⌜ now (words .exit) ≡ spliced 64 order (now (words .entry)) d n (λ i. row 64 order (now (source .entry)) (s + i)) ⌝ }
+{
+    if n == 0 {
+        return;
+    }
+    let at = d / 64 * 64;
+    match order {
+        Order::Lsb0 => {
+            bits(words, Order::Lsb0, at, source, s, n);
+        }
+        Order::Msb0 => {
+            bits(words, Order::Msb0, at, source, s, n);
+        }
+    }
 }
 
 // len bits from place s of the source on become those from place d of the target on.
@@ -80,11 +114,11 @@ pub fn copy_row(words: &mut [u64], order: Order, d: usize, source: &[u64], s: us
     ensures { λ _. ⌜ now (words .exit) ≡ spliced 64 order (now (words .entry)) d len (λ i. row 64 order (now (source .entry)) (s + i)) ⌝ }
 {
     let first = lead(d, len);
-    piece(words, order, d, source, s, first);
+    first_piece(words, order, d, source, s, first);
     let k = (len - first) / 64;
     whole(words, order, d + first, source, s + first, k);
     let most = first + k * 64;
-    piece(words, order, d + most, source, s + most, len - most);
+    last_piece(words, order, d + most, source, s + most, len - most);
 }
 
 // Bit i of the target becomes bit i of the source, lengths equal: 1 to 3 of the target, 1 to 3 of the source, 6, 7.

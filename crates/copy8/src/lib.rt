@@ -62,16 +62,50 @@ fn whole(words: &mut [u8], order: Order, d: usize, source: &[u8], s: usize, k: u
     funnel_words(&mut words[a..e], order, &source[b..f], h);
 }
 
-// n bits within one word of the target.
-fn piece(words: &mut [u8], order: Order, d: usize, source: &[u8], s: usize, n: usize)
+// n bits within one word of the target, of which there is one at least.
+fn bits(words: &mut [u8], order: Order, d: usize, source: &[u8], s: usize, n: usize)
+    requires { ⌜ (1 ≤ n) × (d % 8 + n ≤ 8) × (d + n ≤ length (now words) * 8) × (s + n ≤ length (now source) * 8) ⌝ }
+    ensures { λ _. ⌜ now (words .exit) ≡ spliced 8 order (now (words .entry)) d n (λ i. row 8 order (now (source .entry)) (s + i)) ⌝ }
+{
+    let v = fetch(source, order, s, d % 8, n);
+    put(words, order, d, n, v);
+}
+
+// The first piece: n bits within one word of the target, with code of its own for each order.
+fn first_piece(words: &mut [u8], order: Order, d: usize, source: &[u8], s: usize, n: usize)
     requires { ⌜ (d % 8 + n ≤ 8) × (d + n ≤ length (now words) * 8) × (s + n ≤ length (now source) * 8) ⌝ }
     ensures { λ _. ⌜ now (words .exit) ≡ spliced 8 order (now (words .entry)) d n (λ i. row 8 order (now (source .entry)) (s + i)) ⌝ }
 {
     if n == 0 {
         return;
     }
-    let v = fetch(source, order, s, d % 8, n);
-    put(words, order, d, n, v);
+    match order {
+        Order::Lsb0 => {
+            bits(words, Order::Lsb0, d, source, s, n);
+        }
+        Order::Msb0 => {
+            bits(words, Order::Msb0, d, source, s, n);
+        }
+    }
+}
+
+// The last piece: n bits from a word's start on.
+fn last_piece(words: &mut [u8], order: Order, d: usize, source: &[u8], s: usize, n: usize)
+    requires { ⌜ (1 ≤ n → d % 8 ≡ 0) × (n ≤ 8) × (d + n ≤ length (now words) * 8) × (s + n ≤ length (now source) * 8) × (length (now words) ≤ 65536) ⌝ }
+    ensures { λ _. ⌜ now (words .exit) ≡ spliced 8 order (now (words .entry)) d n (λ i. row 8 order (now (source .entry)) (s + i)) ⌝ }
+{
+    if n == 0 {
+        return;
+    }
+    let at = d / 8 * 8;
+    match order {
+        Order::Lsb0 => {
+            bits(words, Order::Lsb0, at, source, s, n);
+        }
+        Order::Msb0 => {
+            bits(words, Order::Msb0, at, source, s, n);
+        }
+    }
 }
 
 // len bits from place s of the source on become those from place d of the target on.
@@ -80,11 +114,11 @@ pub fn copy_row(words: &mut [u8], order: Order, d: usize, source: &[u8], s: usiz
     ensures { λ _. ⌜ now (words .exit) ≡ spliced 8 order (now (words .entry)) d len (λ i. row 8 order (now (source .entry)) (s + i)) ⌝ }
 {
     let first = lead(d, len);
-    piece(words, order, d, source, s, first);
+    first_piece(words, order, d, source, s, first);
     let k = (len - first) / 8;
     whole(words, order, d + first, source, s + first, k);
     let most = first + k * 8;
-    piece(words, order, d + most, source, s + most, len - most);
+    last_piece(words, order, d + most, source, s + most, len - most);
 }
 
 // Bit i of the target becomes bit i of the source, lengths equal: 1 to 3 of the target, 1 to 3 of the source, 6, 7.

@@ -7,15 +7,15 @@ use lib.Dec.{lit<}
 use borrow.Author.Needs.{needs}
 use denote.Ref.{now}
 use Rattle.rules.specs.Positions.{row}
-use Rattle.rules.proofs.RowPieces.{grown, last-fits}
+use Rattle.rules.proofs.RowPieces.{on-word, grown}
 use Rattle.copy8.proofs.copy_row.Statement.{statement}
 use Rattle.copy8.proofs.copy_row.Tie as tie
 
 lead-requires : tie.Need-lead-requires
 lead-requires c κs = search needs
 
-piece-requires : tie.Need-piece-requires
-piece-requires c κs = search needs
+first-piece-requires : tie.Need-first-piece-requires
+first-piece-requires c κs = search needs
 
 sub-k : tie.Need-sub-k
 sub-k c = search needs
@@ -37,20 +37,21 @@ mul-most c = search needs
 add-most : tie.Need-add-most
 add-most c = search needs
 
-add-piece : tie.Need-add-piece
-add-piece c = search needs
+add-last-piece : tie.Need-add-last-piece
+add-last-piece c = search needs
 
-add-piece-2 : tie.Need-add-piece-2
-add-piece-2 c = search needs
+add-last-piece-2 : tie.Need-add-last-piece-2
+add-last-piece-2 c = search needs
 
-sub-piece : tie.Need-sub-piece
-sub-piece c = search needs
+sub-last-piece : tie.Need-sub-last-piece
+sub-last-piece c = search needs
 
-piece-requires-2 : tie.Need-piece-requires-2
-piece-requires-2 c κs =
+last-piece-requires : tie.Need-last-piece-requires
+last-piece-requires c κs =
     let at-lead = c .before .before .before .before .before .before .before .before .before in
     let a = at-lead .before .before .before .args in
-    (last-fits 8 (lit< tt) (a .d) (at-lead .lead .result) (a .len) (at-lead .lead .ensures .2) (omega arith), omega arith, omega arith)
+    let r = at-lead .lead .result in
+    ((λ h. on-word 8 (a .d) r ((a .len - r) / 8) (at-lead .lead .ensures .2 (omega arith))), omega arith, omega arith, omega arith, omega arith)
 
 same-length : tie.Need-same-length
 same-length c = search needs
@@ -66,25 +67,25 @@ returns c =
     let k = (a .len - r) / 8 in
     let from : ℕ → ℕ = λ i. row 8 (a .order) (now (a .source)) (a .s + i) in
     grown 8 (lit< tt) (a .order) (now (a .words)) (a .d) from (r + k * 8) (a .len - (r + k * 8)) (a .len) (λ j. row 8 (a .order) (now (a .source)) (a .s + (r + k * 8) + j)) (omega arith)
-    (grown 8 (lit< tt) (a .order) (now (a .words)) (a .d) from r (k * 8) (r + k * 8) (λ j. row 8 (a .order) (now (a .source)) (a .s + r + j)) refl (one .piece .ensures) (second .whole .ensures)
+    (grown 8 (lit< tt) (a .order) (now (a .words)) (a .d) from r (k * 8) (r + k * 8) (λ j. row 8 (a .order) (now (a .source)) (a .s + r + j)) refl (one .first-piece .ensures) (second .whole .ensures)
     (λ j l. ap (row 8 (a .order) (now (a .source))) (add-assoc (a .s) r j)))
-    (third .piece2 .ensures) (λ j l. ap (row 8 (a .order) (now (a .source))) (add-assoc (a .s) (r + k * 8) j))
+    (third .last-piece .ensures) (λ j l. ap (row 8 (a .order) (now (a .source))) (add-assoc (a .s) (r + k * 8) j))
 
 pub copy-row-spec : {M : Type 1} → statement M
 copy-row-spec =
     tie.close
     (tie.spec
     lead-requires
-    piece-requires
+    first-piece-requires
     sub-k
     add-whole
     add-whole-2
     whole-requires
     mul-most
     add-most
-    add-piece
-    add-piece-2
-    sub-piece
-    piece-requires-2
+    add-last-piece
+    add-last-piece-2
+    sub-last-piece
+    last-piece-requires
     same-length
     returns)
