@@ -174,8 +174,8 @@ fn piece(words: &mut [u64], order: Order, d: usize, n: usize, operation: u8, v: 
     put(words, order, d, n, x);
 }
 
-// n bits within one word, with those of the right side.
-fn some_piece(
+// The first piece: n bits within one word, with those of the right side, and with code of its own for each order.
+fn first_piece(
     words: &mut [u64],
     order: Order,
     d: usize,
@@ -190,8 +190,45 @@ fn some_piece(
     if n == 0 {
         return;
     }
-    let v = fetch(right, order, s, d % 64, n);
-    piece(words, order, d, n, operation, v);
+    match order {
+        Order::Lsb0 => {
+            let v = fetch(right, Order::Lsb0, s, d % 64, n);
+            piece(words, Order::Lsb0, d, n, operation, v);
+        }
+        Order::Msb0 => {
+            let v = fetch(right, Order::Msb0, s, d % 64, n);
+            piece(words, Order::Msb0, d, n, operation, v);
+        }
+    }
+}
+
+// The last piece: n bits from a word's start on, with those of the right side.
+fn last_piece(
+    words: &mut [u64],
+    order: Order,
+    d: usize,
+    n: usize,
+    operation: u8,
+    right: &[u64],
+    s: usize,
+)
+    requires { ⌜ (1 ≤ n → d % 64 ≡ 0) × (n ≤ 64) × (d + n ≤ length (now words) * 64) × (s + n ≤ length (now right) * 64) × (length (now words) ≤ 65536) ⌝ }
+    ensures { λ _. ⌜ now (words .exit) ≡ spliced 64 order (now (words .entry)) d n (λ i. applied operation (row 64 order (now (words .entry)) (d + i)) (row 64 order (now (right .entry)) (s + i))) ⌝ }
+{
+    if n == 0 {
+        return;
+    }
+    let at = d / 64 * 64;
+    match order {
+        Order::Lsb0 => {
+            let v = fetch(right, Order::Lsb0, s, at % 64, n);
+            piece(words, Order::Lsb0, at, n, operation, v);
+        }
+        Order::Msb0 => {
+            let v = fetch(right, Order::Msb0, s, at % 64, n);
+            piece(words, Order::Msb0, at, n, operation, v);
+        }
+    }
 }
 
 // len bits with as many of the right side.
@@ -208,11 +245,11 @@ fn between(
     ensures { λ _. ⌜ now (words .exit) ≡ spliced 64 order (now (words .entry)) d len (λ i. applied operation (row 64 order (now (words .entry)) (d + i)) (row 64 order (now (right .entry)) (s + i))) ⌝ }
 {
     let first = lead(d, len);
-    some_piece(words, order, d, first, operation, right, s);
+    first_piece(words, order, d, first, operation, right, s);
     let k = (len - first) / 64;
     whole_words(words, order, d + first, k, operation, right, s + first);
     let most = first + k * 64;
-    some_piece(
+    last_piece(
         words,
         order,
         d + most,

@@ -174,8 +174,8 @@ fn piece(words: &mut [u8], order: Order, d: usize, n: usize, operation: u8, v: u
     put(words, order, d, n, x);
 }
 
-// n bits within one word, with those of the right side.
-fn some_piece(
+// The first piece: n bits within one word, with those of the right side, and with code of its own for each order.
+fn first_piece(
     words: &mut [u8],
     order: Order,
     d: usize,
@@ -190,8 +190,45 @@ fn some_piece(
     if n == 0 {
         return;
     }
-    let v = fetch(right, order, s, d % 8, n);
-    piece(words, order, d, n, operation, v);
+    match order {
+        Order::Lsb0 => {
+            let v = fetch(right, Order::Lsb0, s, d % 8, n);
+            piece(words, Order::Lsb0, d, n, operation, v);
+        }
+        Order::Msb0 => {
+            let v = fetch(right, Order::Msb0, s, d % 8, n);
+            piece(words, Order::Msb0, d, n, operation, v);
+        }
+    }
+}
+
+// The last piece: n bits from a word's start on, with those of the right side.
+fn last_piece(
+    words: &mut [u8],
+    order: Order,
+    d: usize,
+    n: usize,
+    operation: u8,
+    right: &[u8],
+    s: usize,
+)
+    requires { ⌜ (1 ≤ n → d % 8 ≡ 0) × (n ≤ 8) × (d + n ≤ length (now words) * 8) × (s + n ≤ length (now right) * 8) × (length (now words) ≤ 65536) ⌝ }
+    ensures { λ _. ⌜ now (words .exit) ≡ spliced 8 order (now (words .entry)) d n (λ i. applied operation (row 8 order (now (words .entry)) (d + i)) (row 8 order (now (right .entry)) (s + i))) ⌝ }
+{
+    if n == 0 {
+        return;
+    }
+    let at = d / 8 * 8;
+    match order {
+        Order::Lsb0 => {
+            let v = fetch(right, Order::Lsb0, s, at % 8, n);
+            piece(words, Order::Lsb0, at, n, operation, v);
+        }
+        Order::Msb0 => {
+            let v = fetch(right, Order::Msb0, s, at % 8, n);
+            piece(words, Order::Msb0, at, n, operation, v);
+        }
+    }
 }
 
 // len bits with as many of the right side.
@@ -208,11 +245,11 @@ fn between(
     ensures { λ _. ⌜ now (words .exit) ≡ spliced 8 order (now (words .entry)) d len (λ i. applied operation (row 8 order (now (words .entry)) (d + i)) (row 8 order (now (right .entry)) (s + i))) ⌝ }
 {
     let first = lead(d, len);
-    some_piece(words, order, d, first, operation, right, s);
+    first_piece(words, order, d, first, operation, right, s);
     let k = (len - first) / 8;
     whole_words(words, order, d + first, k, operation, right, s + first);
     let most = first + k * 8;
-    some_piece(
+    last_piece(
         words,
         order,
         d + most,

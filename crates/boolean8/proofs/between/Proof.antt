@@ -7,7 +7,7 @@ use lib.Dec.{lit<}
 use borrow.Author.Needs.{needs}
 use denote.Ref.{now}
 use Rattle.rules.specs.Positions.{row}
-use Rattle.rules.proofs.RowPieces.{last-fits}
+use Rattle.rules.proofs.RowPieces.{on-word}
 use Rattle.rules.proofs.Combine.{combined-on}
 use Rattle.boolean8.proofs.between.Statement.{statement}
 use Rattle.boolean8.proofs.between.Tie as tie
@@ -15,8 +15,8 @@ use Rattle.boolean8.proofs.between.Tie as tie
 lead-requires : tie.Need-lead-requires
 lead-requires c κs = search needs
 
-some-piece-requires : tie.Need-some-piece-requires
-some-piece-requires c κs = search needs
+first-piece-requires : tie.Need-first-piece-requires
+first-piece-requires c κs = search needs
 
 sub-k : tie.Need-sub-k
 sub-k c = search needs
@@ -38,20 +38,21 @@ mul-most c = search needs
 add-most : tie.Need-add-most
 add-most c = search needs
 
-add-some-piece : tie.Need-add-some-piece
-add-some-piece c = search needs
+add-last-piece : tie.Need-add-last-piece
+add-last-piece c = search needs
 
-sub-some-piece : tie.Need-sub-some-piece
-sub-some-piece c = search needs
+sub-last-piece : tie.Need-sub-last-piece
+sub-last-piece c = search needs
 
-add-some-piece-2 : tie.Need-add-some-piece-2
-add-some-piece-2 c = search needs
+add-last-piece-2 : tie.Need-add-last-piece-2
+add-last-piece-2 c = search needs
 
-some-piece-requires-2 : tie.Need-some-piece-requires-2
-some-piece-requires-2 c κs =
+last-piece-requires : tie.Need-last-piece-requires
+last-piece-requires c κs =
     let at-lead = c .before .before .before .before .before .before .before .before .before in
     let a = at-lead .before .before .before .args in
-    (last-fits 8 (lit< tt) (a .d) (at-lead .lead .result) (a .len) (at-lead .lead .ensures .2) (omega arith), omega arith, omega arith)
+    let r = at-lead .lead .result in
+    ((λ h. on-word 8 (a .d) r ((a .len - r) / 8) (at-lead .lead .ensures .2 (omega arith))), omega arith, omega arith, omega arith, omega arith)
 
 same-length : tie.Need-same-length
 same-length c = search needs
@@ -66,24 +67,24 @@ returns c =
     let r = at-lead .lead .result in
     let k = (a .len - r) / 8 in
     combined-on 8 (lit< tt) (a .order) (now (a .words)) (a .d) (a .operation) (λ j. row 8 (a .order) (now (a .right)) (a .s + j)) (r + k * 8) (a .len - (r + k * 8)) (a .len) (λ j. row 8 (a .order) (now (a .right)) (a .s + (r + k * 8) + j)) (omega arith) (omega arith)
-    (combined-on 8 (lit< tt) (a .order) (now (a .words)) (a .d) (a .operation) (λ j. row 8 (a .order) (now (a .right)) (a .s + j)) r (k * 8) (r + k * 8) (λ j. row 8 (a .order) (now (a .right)) (a .s + r + j)) refl (omega arith) (one .some-piece .ensures) (second .whole-words .ensures) (λ j l. ap (row 8 (a .order) (now (a .right))) (add-assoc (a .s) r j)))
-    (third .some-piece2 .ensures) (λ j l. ap (row 8 (a .order) (now (a .right))) (add-assoc (a .s) (r + k * 8) j))
+    (combined-on 8 (lit< tt) (a .order) (now (a .words)) (a .d) (a .operation) (λ j. row 8 (a .order) (now (a .right)) (a .s + j)) r (k * 8) (r + k * 8) (λ j. row 8 (a .order) (now (a .right)) (a .s + r + j)) refl (omega arith) (one .first-piece .ensures) (second .whole-words .ensures) (λ j l. ap (row 8 (a .order) (now (a .right))) (add-assoc (a .s) r j)))
+    (third .last-piece .ensures) (λ j l. ap (row 8 (a .order) (now (a .right))) (add-assoc (a .s) (r + k * 8) j))
 
 pub between-spec : {M : Type 1} → statement M
 between-spec =
     tie.close
     (tie.spec
     lead-requires
-    some-piece-requires
+    first-piece-requires
     sub-k
     add-whole-words
     add-whole-words-2
     whole-words-requires
     mul-most
     add-most
-    add-some-piece
-    sub-some-piece
-    add-some-piece-2
-    some-piece-requires-2
+    add-last-piece
+    sub-last-piece
+    add-last-piece-2
+    last-piece-requires
     same-length
     returns)
