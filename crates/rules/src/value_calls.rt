@@ -11,7 +11,7 @@ ghost use mathlib.Core.Path.{_≡_};
 ghost use mathlib.Core.Bool.{true, _||_};
 ghost use Prim.Native.Nat.{_%_, _^_, _≤_, _<_};
 ghost use lib.Dec.{eqb};
-ghost use Rattle.rules.specs.Fields.{isSize, whole, isInteger, fits, bitsOf, signedOf, readAs};
+ghost use Rattle.rules.specs.Fields.{isSize, whole, isInteger, fits, bitsOf, readAs};
 ghost use Rattle.rules.specs.Refusals.{verdict, fieldCases, valueCases, fittingCases};
 ghost use Rattle.rules.specs.Calls.{lowBitsAnswer, fittingAnswer, readAnswer, machineAnswer};
 ghost use Rattle.rules.specs.Answers.{numberSays, lowBitsSays, machineSays};
@@ -130,17 +130,6 @@ impl Number {
         }
     }
 
-    // The signed number that 64 bits stand for.
-    fn of_64(loaded: u64) -> Number
-        ensures { λ r. ⌜ whole r ≡ signedOf 64 loaded ⌝ }
-    {
-        if loaded <= 0x7fff_ffff_ffff_ffff {
-            Number::Up(loaded)
-        } else {
-            Number::Down(0xffff_ffff_ffff_ffff - loaded)
-        }
-    }
-
     // The number that `len` loaded bits stand for, for a caller that has seen that there are 1 to 64 of them.
     pub fn of_bits(loaded: u64, len: usize, sign: Sign) -> Number
         requires { ⌜ (0 < len) × (len ≤ 64) × (loaded < 2 ^ len) ⌝ }
@@ -149,11 +138,12 @@ impl Number {
         match sign {
             Sign::Unsigned => Number::Up(loaded),
             Sign::Signed => {
-                if len == 64 {
-                    return Number::of_64(loaded);
+                let below = low_ones(len) - loaded;
+                if loaded <= below {
+                    Number::Up(loaded)
+                } else {
+                    Number::Down(below)
                 }
-                let above = 64 - len;
-                Number::from_i64((loaded as i64) << above >> above)
             }
         }
     }
