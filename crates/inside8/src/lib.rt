@@ -20,8 +20,8 @@ ghost use Rattle.rules.specs.Calls.{copyInside, answer, after};
 ghost use Rattle.rules.specs.Answers.{writeSays, Gives};
 ghost use Rattle.rules.proofs.Row.{Words};
 
-// n bits within one word of the destination, all read before one is written.
-fn piece(words: &mut [u8], order: Order, from: usize, to: usize, n: usize)
+// The first piece: n bits within one word of the destination, all read before one is written.
+fn first_piece(words: &mut [u8], order: Order, from: usize, to: usize, n: usize)
     requires { ⌜ (to % 8 + n ≤ 8) × (from + n ≤ length (now words) * 8) × (to + n ≤ length (now words) * 8) ⌝ }
     ensures { λ _. ⌜ now (words .exit) ≡ moved 8 order (now (words .entry)) from to n ⌝ }
 {
@@ -30,6 +30,19 @@ fn piece(words: &mut [u8], order: Order, from: usize, to: usize, n: usize)
     }
     let v = fetch(words, order, from, to % 8, n);
     put(words, order, to, n, v);
+}
+
+// The last piece: the same from a word's start on.
+fn last_piece(words: &mut [u8], order: Order, from: usize, to: usize, n: usize)
+    requires { ⌜ (1 ≤ n → to % 8 ≡ 0) × (n ≤ 8) × (from + n ≤ length (now words) * 8) × (to + n ≤ length (now words) * 8) × (length (now words) ≤ 65536) ⌝ }
+    ensures { λ _. ⌜ now (words .exit) ≡ moved 8 order (now (words .entry)) from to n ⌝ }
+{
+    if n == 0 {
+        return;
+    }
+    let at = to / 8 * 8;
+    let v = fetch(words, order, from, at % 8, n);
+    put(words, order, at, n, v);
 }
 
 // k words from word b on, the first one first, become those from word a on.
@@ -130,11 +143,11 @@ fn move_up(words: &mut [u8], order: Order, from: usize, to: usize, n: usize)
     ensures { λ _. ⌜ now (words .exit) ≡ moved 8 order (now (words .entry)) from to n ⌝ }
 {
     let first = lead(to, n);
-    piece(words, order, from, to, first);
+    first_piece(words, order, from, to, first);
     let k = (n - first) / 8;
     whole_up(words, order, from + first, to + first, k);
     let most = first + k * 8;
-    piece(words, order, from + most, to + most, n - most);
+    last_piece(words, order, from + most, to + most, n - most);
 }
 
 // Downward, the last bits first: for a destination at or past the source's start.
@@ -145,9 +158,9 @@ fn move_down(words: &mut [u8], order: Order, from: usize, to: usize, n: usize)
     let first = lead(to, n);
     let k = (n - first) / 8;
     let most = first + k * 8;
-    piece(words, order, from + most, to + most, n - most);
+    last_piece(words, order, from + most, to + most, n - most);
     whole_down(words, order, from + first, to + first, k);
-    piece(words, order, from, to, first);
+    first_piece(words, order, from, to, first);
 }
 
 // n bits from place `from` on become those from place `to` on, in the direction that the overlap asks.

@@ -5,7 +5,7 @@ use native.Mathlib.Omega.{arith}
 use lib.Dec.{lit<}
 use borrow.Author.Needs.{needs}
 use denote.Ref.{now}
-use Rattle.rules.proofs.RowPieces.{last-fits}
+use Rattle.rules.proofs.RowPieces.{on-word}
 use Rattle.rules.proofs.Scratch.{step-down}
 use Rattle.rules.proofs.InPlace.{moved-at}
 use Rattle.inside8.proofs.move_down.Statement.{statement}
@@ -23,20 +23,21 @@ mul-most c = search needs
 add-most : tie.Need-add-most
 add-most c = search needs
 
-add-piece : tie.Need-add-piece
-add-piece c = search needs
+add-last-piece : tie.Need-add-last-piece
+add-last-piece c = search needs
 
-add-piece-2 : tie.Need-add-piece-2
-add-piece-2 c = search needs
+add-last-piece-2 : tie.Need-add-last-piece-2
+add-last-piece-2 c = search needs
 
-sub-piece : tie.Need-sub-piece
-sub-piece c = search needs
+sub-last-piece : tie.Need-sub-last-piece
+sub-last-piece c = search needs
 
-piece-requires : tie.Need-piece-requires
-piece-requires c κs =
+last-piece-requires : tie.Need-last-piece-requires
+last-piece-requires c κs =
     let at-lead = c .before in
     let a = at-lead .before .before .args in
-    (last-fits 8 (lit< tt) (a .to) (at-lead .lead .result) (a .n) (at-lead .lead .ensures .2) (omega arith), omega arith, omega arith)
+    let r = at-lead .lead .result in
+    ((λ h. on-word 8 (a .to) r ((a .n - r) / 8) (at-lead .lead .ensures .2 (omega arith))), omega arith, omega arith, omega arith, omega arith)
 
 add-whole-down : tie.Need-add-whole-down
 add-whole-down c = search needs
@@ -49,8 +50,8 @@ whole-down-requires c κs =
     let at-lead = c .before .before .before .before .before in
     ((λ h. at-lead .lead .ensures .2 (omega arith)), omega arith, omega arith, omega arith, omega arith)
 
-piece-requires-2 : tie.Need-piece-requires-2
-piece-requires-2 c κs = search needs
+first-piece-requires : tie.Need-first-piece-requires
+first-piece-requires c κs = search needs
 
 same-length : tie.Need-same-length
 same-length c = search needs
@@ -67,8 +68,8 @@ returns c =
     let rest = a .n - (r + k * 8) in
     step-down 8 (lit< tt) (a .order) (now (a .words)) (a .from) (a .to) r (k * 8 + rest) (omega arith) (omega arith) (omega arith)
     (step-down 8 (lit< tt) (a .order) (now (a .words)) (a .from + r) (a .to + r) (k * 8) rest (omega arith) (omega arith) (omega arith)
-    (one .piece .ensures ∙ moved-at 8 (a .order) (now (a .words)) (omega arith) (omega arith) refl) (second .whole-down .ensures))
-    (third .piece2 .ensures)
+    (one .last-piece .ensures ∙ moved-at 8 (a .order) (now (a .words)) (omega arith) (omega arith) refl) (second .whole-down .ensures))
+    (third .first-piece .ensures)
     ∙ moved-at 8 (a .order) (now (a .words)) refl refl (omega arith)
 
 pub move-down-spec : {M : Type 1} → statement M
@@ -79,13 +80,13 @@ move-down-spec =
     sub-k
     mul-most
     add-most
-    add-piece
-    add-piece-2
-    sub-piece
-    piece-requires
+    add-last-piece
+    add-last-piece-2
+    sub-last-piece
+    last-piece-requires
     add-whole-down
     add-whole-down-2
     whole-down-requires
-    piece-requires-2
+    first-piece-requires
     same-length
     returns)

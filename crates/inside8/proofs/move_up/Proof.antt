@@ -6,7 +6,7 @@ use native.Mathlib.Omega.{arith}
 use lib.Dec.{lit<}
 use borrow.Author.Needs.{needs}
 use denote.Ref.{now}
-use Rattle.rules.proofs.RowPieces.{last-fits}
+use Rattle.rules.proofs.RowPieces.{on-word}
 use Rattle.rules.proofs.Scratch.{step-up}
 use Rattle.rules.proofs.InPlace.{moved-at}
 use Rattle.inside8.proofs.move_up.Statement.{statement}
@@ -15,8 +15,8 @@ use Rattle.inside8.proofs.move_up.Tie as tie
 lead-requires : tie.Need-lead-requires
 lead-requires c κs = search needs
 
-piece-requires : tie.Need-piece-requires
-piece-requires c κs = search needs
+first-piece-requires : tie.Need-first-piece-requires
+first-piece-requires c κs = search needs
 
 sub-k : tie.Need-sub-k
 sub-k c = search needs
@@ -39,20 +39,21 @@ mul-most c = search needs
 add-most : tie.Need-add-most
 add-most c = search needs
 
-add-piece : tie.Need-add-piece
-add-piece c = search needs
+add-last-piece : tie.Need-add-last-piece
+add-last-piece c = search needs
 
-add-piece-2 : tie.Need-add-piece-2
-add-piece-2 c = search needs
+add-last-piece-2 : tie.Need-add-last-piece-2
+add-last-piece-2 c = search needs
 
-sub-piece : tie.Need-sub-piece
-sub-piece c = search needs
+sub-last-piece : tie.Need-sub-last-piece
+sub-last-piece c = search needs
 
-piece-requires-2 : tie.Need-piece-requires-2
-piece-requires-2 c κs =
+last-piece-requires : tie.Need-last-piece-requires
+last-piece-requires c κs =
     let at-lead = c .before .before .before .before .before .before .before .before .before in
     let a = at-lead .before .before .args in
-    (last-fits 8 (lit< tt) (a .to) (at-lead .lead .result) (a .n) (at-lead .lead .ensures .2) (omega arith), omega arith, omega arith)
+    let r = at-lead .lead .result in
+    ((λ h. on-word 8 (a .to) r ((a .n - r) / 8) (at-lead .lead .ensures .2 (omega arith))), omega arith, omega arith, omega arith, omega arith)
 
 same-length : tie.Need-same-length
 same-length c = search needs
@@ -69,8 +70,8 @@ returns c =
     let k = (a .n - r) / 8 in
     let most = r + k * 8 in
     step-up 8 (lit< tt) (a .order) (now (a .words)) (a .from) (a .to) most (a .n - most) (omega arith) (omega arith) (⊎-elim (λ l. inl l) (λ l. inr (omega arith)) (start .pre .2))
-    (step-up 8 (lit< tt) (a .order) (now (a .words)) (a .from) (a .to) r (k * 8) (omega arith) (omega arith) (⊎-elim (λ l. inl l) (λ l. inr (omega arith)) (start .pre .2)) (one .piece .ensures) (second .whole-up .ensures))
-    (third .piece2 .ensures)
+    (step-up 8 (lit< tt) (a .order) (now (a .words)) (a .from) (a .to) r (k * 8) (omega arith) (omega arith) (⊎-elim (λ l. inl l) (λ l. inr (omega arith)) (start .pre .2)) (one .first-piece .ensures) (second .whole-up .ensures))
+    (third .last-piece .ensures)
     ∙ moved-at 8 (a .order) (now (a .words)) refl refl (omega arith)
 
 pub move-up-spec : {M : Type 1} → statement M
@@ -78,16 +79,16 @@ move-up-spec =
     tie.close
     (tie.spec
     lead-requires
-    piece-requires
+    first-piece-requires
     sub-k
     add-whole-up
     add-whole-up-2
     whole-up-requires
     mul-most
     add-most
-    add-piece
-    add-piece-2
-    sub-piece
-    piece-requires-2
+    add-last-piece
+    add-last-piece-2
+    sub-last-piece
+    last-piece-requires
     same-length
     returns)

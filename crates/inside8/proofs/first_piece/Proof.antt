@@ -1,4 +1,4 @@
--- `inside64::piece` puts what it fetched: the bits that the fetched word carries.
+-- `inside8::first_piece` puts what it fetched: the bits that the fetched word carries.
 use mathlib.Core.Path.{_∙_}
 use Prim.Native.Nat.{_+_, _%_}
 use lib.Dec.{lit<}
@@ -9,13 +9,13 @@ use Rattle.rules.specs.Positions.{row, position}
 use Rattle.rules.specs.Rows.{moved}
 use Rattle.rules.proofs.Splice.{splice-eq}
 use Rattle.rules.proofs.Scratch.{moved-none}
-use Rattle.inside64.proofs.piece.Statement.{statement}
-use Rattle.inside64.proofs.piece.Tie as tie
+use Rattle.inside8.proofs.first_piece.Statement.{statement}
+use Rattle.inside8.proofs.first_piece.Tie as tie
 
 returns : tie.Need-returns
 returns c =
     let a = c .before .before .args in
-    moved-none 64 (lit< tt) (a .order) (now (a .words)) (a .from) (a .to) (a .n) (c .if1 .taken) (λ k. c .before .slice-known .given k .fits)
+    moved-none 8 (lit< tt) (a .order) (now (a .words)) (a .from) (a .to) (a .n) (c .if1 .taken) (λ k. c .before .slice-known .given k .fits)
 
 fetch-requires : tie.Need-fetch-requires
 fetch-requires c κs = search needs
@@ -33,8 +33,8 @@ returns-2 c =
     let at-fetch = at-put .before .before in
     let a = at-fetch .before .before .before .before .args in
     at-put .put .ensures
-    ∙ splice-eq 64 (lit< tt) (a .order) (now (a .words)) (a .to) (a .n) (λ i. bitN (at-fetch .fetch .result) (position 64 (a .order) (a .to % 64 + i))) (λ i. row 64 (a .order) (now (a .words)) (a .from + i))
+    ∙ splice-eq 8 (lit< tt) (a .order) (now (a .words)) (a .to) (a .n) (λ i. bitN (at-fetch .fetch .result) (position 8 (a .order) (a .to % 8 + i))) (λ i. row 8 (a .order) (now (a .words)) (a .from + i))
     (at-fetch .fetch .ensures)
 
-pub piece-spec : {M : Type 1} → statement M
-piece-spec = tie.close (tie.spec returns fetch-requires put-requires same-length returns-2)
+pub first-piece-spec : {M : Type 1} → statement M
+first-piece-spec = tie.close (tie.spec returns fetch-requires put-requires same-length returns-2)
