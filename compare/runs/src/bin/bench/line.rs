@@ -64,6 +64,13 @@ pub struct Line {
 }
 
 impl Line {
+    /// Takes over each time that is better.
+    pub fn keep_best(&mut self, others: Times) {
+        for (time, other) in self.times.iter_mut().zip(others) {
+            *time = time.zip(other).map(|(time, other)| time.min(other));
+        }
+    }
+
     /// Nanoseconds, or gigabytes (10^9 bytes of one side's row) a second.
     pub fn figure(&self, who: Who) -> Option<f64> {
         let time = self.times[who as usize]?;

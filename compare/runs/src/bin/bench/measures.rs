@@ -15,6 +15,7 @@ use crate::{
 /// How much is measured.
 #[derive(Clone, Copy, PartialEq)]
 pub struct Effort {
+    pub passes: usize,
     pub rounds: usize,
     pub all_lengths: bool,
 }
