@@ -1,32 +1,9 @@
 // Fields of rows of 64-bit words, known to be Lsb0 le.
-use rules::Index;
+use crate::taken::field;
+use crate::taken::unsigned;
 use rules::Number;
-use rules::NumberAnswer;
-use rules::Order;
 use rules::Sign;
 use rules::Significance;
-use rules::Span;
-
-// The field of k bits at a head of a word.
-fn field(word: usize, head: usize, k: usize) -> Span {
-    Span {
-        order: Order::Lsb0,
-        word,
-        head: Index(head),
-        len: k,
-    }
-}
-
-// The number of an unsigned load, 0 where it is refused.
-fn unsigned(answer: NumberAnswer) -> u64 {
-    match answer {
-        NumberAnswer::Refused(_) => 0,
-        NumberAnswer::Is(number) => match number {
-            Number::Up(n) => n,
-            Number::Down(_) => 0,
-        },
-    }
-}
 
 // Loads the fields of k bits that begin at a head of a word each, and mixes their numbers.
 #[no_mangle]
