@@ -40,9 +40,42 @@ macro_rules! search {
     };
 }
 
+/// A call on two rows with the signature of the exported ones: how each is lent, what follows them in the signature, and
+/// what is done with both slices, first places and lengths.
+macro_rules! two_rows {
+    (
+        $name:ident, $pointer:ty, $lend:ident, $second_pointer:ty, $second_lend:ident, ($($more:ident: $kind:ty),*),
+        |$words:ident, $at:ident, $right:ident, $from:ident, $order:ident, $length:ident, $right_length:ident| $body:expr
+    ) => {
+        #[inline(never)]
+        pub unsafe extern "C" fn $name(
+            words: $pointer,
+            lent: usize,
+            $order: u8,
+            word: usize,
+            head: usize,
+            $length: usize,
+            right: $second_pointer,
+            right_lent: usize,
+            _right_order: u8,
+            right_word: usize,
+            right_head: usize,
+            $right_length: usize,
+            $($more: $kind,)*
+        ) -> u8 {
+            let ($words, $right) = ($lend(words, lent), $second_lend(right, right_lent));
+            let ($at, $from) = (word * Word::WIDTH + head, right_word * Word::WIDTH + right_head);
+            $body;
+            0
+        }
+    };
+}
+
 macro_rules! calls {
     ($word:ty) => {
         use super::*;
+
+        type Word = $word;
 
         #[inline(never)]
         pub unsafe extern "C" fn load(
@@ -89,26 +122,12 @@ macro_rules! calls {
             0
         }
 
-        #[inline(never)]
-        pub unsafe extern "C" fn copy_from(
-            words: *mut $word,
-            lent: usize,
-            order: u8,
-            word: usize,
-            head: usize,
-            length: usize,
-            source: *const $word,
-            source_lent: usize,
-            _second_order: u8,
-            source_word: usize,
-            source_head: usize,
-            _second_length: usize,
-        ) -> u8 {
-            let (at, from) = (word * <$word>::WIDTH + head, source_word * <$word>::WIDTH + source_head);
-            let (words, source) = (from_raw_parts_mut(words, lent), from_raw_parts(source, source_lent));
-            by_order!(order, rows::join, [$word], (words, at, source, from, length, |_, with| with));
-            0
-        }
+        two_rows!(
+            copy_from, *mut Word, from_raw_parts_mut, *const Word, from_raw_parts, (),
+            |words, at, source, from, order, length, _source_length| {
+                by_order!(order, rows::join, [Word], (words, at, source, from, length, |_, with| with))
+            }
+        );
 
         #[inline(never)]
         pub unsafe extern "C" fn copy_within(
@@ -128,75 +147,30 @@ macro_rules! calls {
             0
         }
 
-        #[inline(never)]
-        pub unsafe extern "C" fn boolean(
-            words: *mut $word,
-            lent: usize,
-            order: u8,
-            word: usize,
-            head: usize,
-            length: usize,
-            right: *const $word,
-            right_lent: usize,
-            _second_order: u8,
-            right_word: usize,
-            right_head: usize,
-            _second_length: usize,
-            operation: u8,
-        ) -> u8 {
-            let (at, from) = (word * <$word>::WIDTH + head, right_word * <$word>::WIDTH + right_head);
-            let (words, right) = (from_raw_parts_mut(words, lent), from_raw_parts(right, right_lent));
-            match operation {
-                8 => by_order!(order, rows::join, [$word], (words, at, right, from, length, |a, b| a & b)),
-                14 => by_order!(order, rows::join, [$word], (words, at, right, from, length, |a, b| a | b)),
-                _ => by_order!(order, rows::join, [$word], (words, at, right, from, length, |a, b| a ^ b)),
+        two_rows!(
+            boolean, *mut Word, from_raw_parts_mut, *const Word, from_raw_parts, (operation: u8),
+            |words, at, right, from, order, length, _right_length| match operation {
+                8 => by_order!(order, rows::join, [Word], (words, at, right, from, length, |a, b| a & b)),
+                14 => by_order!(order, rows::join, [Word], (words, at, right, from, length, |a, b| a | b)),
+                _ => by_order!(order, rows::join, [Word], (words, at, right, from, length, |a, b| a ^ b)),
             }
-            0
-        }
+        );
 
-        #[inline(never)]
-        pub unsafe extern "C" fn swap(
-            words: *mut $word,
-            lent: usize,
-            order: u8,
-            word: usize,
-            head: usize,
-            length: usize,
-            right: *mut $word,
-            right_lent: usize,
-            _second_order: u8,
-            right_word: usize,
-            right_head: usize,
-            _second_length: usize,
-        ) -> u8 {
-            let (at, from) = (word * <$word>::WIDTH + head, right_word * <$word>::WIDTH + right_head);
-            let (words, right) = (from_raw_parts_mut(words, lent), from_raw_parts_mut(right, right_lent));
-            by_order!(order, rows::swap, [$word], (words, at, right, from, length));
-            0
-        }
+        two_rows!(
+            swap, *mut Word, from_raw_parts_mut, *mut Word, from_raw_parts_mut, (),
+            |words, at, right, from, order, length, _right_length| {
+                by_order!(order, rows::swap, [Word], (words, at, right, from, length))
+            }
+        );
 
-        #[inline(never)]
-        pub unsafe extern "C" fn equal(
-            words: *const $word,
-            lent: usize,
-            order: u8,
-            word: usize,
-            head: usize,
-            length: usize,
-            right: *const $word,
-            right_lent: usize,
-            _second_order: u8,
-            right_word: usize,
-            right_head: usize,
-            right_length: usize,
-            out: *mut u8,
-        ) -> u8 {
-            let (at, from) = (word * <$word>::WIDTH + head, right_word * <$word>::WIDTH + right_head);
-            let (words, right) = (from_raw_parts(words, lent), from_raw_parts(right, right_lent));
-            *out = (length == right_length && by_order!(order, rows::equal, [$word], (words, at, right, from, length)))
-                as u8;
-            0
-        }
+        two_rows!(
+            equal, *const Word, from_raw_parts, *const Word, from_raw_parts, (out: *mut u8),
+            |words, at, right, from, order, length, right_length| {
+                let alike = length == right_length
+                    && by_order!(order, rows::equal, [Word], (words, at, right, from, length));
+                *out = alike as u8
+            }
+        );
 
         search!($word, first_one, first, false);
         search!($word, last_one, last, false);
