@@ -27,7 +27,8 @@ pub fn load_by(
     requires { ⌜ (head < 64) × (1 ≤ len) × (len ≤ chunk) × (word * 64 + head + len ≤ length (now words) * 64) ⌝ }
     ensures { λ r. ⌜ (r ≡ loadOf 64 order significance (now (words .entry)) (word * 64 + head) len) × (r < 2 ^ len) ⌝ }
 {
-    if len <= 64 - head {
+    let one = pieces::ends_within(64, head, len);
+    if one {
         return piece_at(words, order, word, head, len);
     }
     match order {
@@ -67,7 +68,8 @@ pub fn store_by(
     requires { ⌜ (head < 64) × (1 ≤ len) × (len ≤ chunk) × (word * 64 + head + len ≤ length (now words) * 64) ⌝ }
     ensures { λ _. ⌜ now (words .exit) ≡ storeOf 64 order significance (now (words .entry)) (word * 64 + head) len v ⌝ }
 {
-    if len <= 64 - head {
+    let one = pieces::ends_within(64, head, len);
+    if one {
         put_piece(words, order, word, head, len, v);
         return;
     }

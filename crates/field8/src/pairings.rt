@@ -27,7 +27,8 @@ pub fn load_by(
     requires { ⌜ (head < 8) × (1 ≤ len) × (len ≤ chunk) × (word * 8 + head + len ≤ length (now words) * 8) ⌝ }
     ensures { λ r. ⌜ (r ≡ loadOf 8 order significance (now (words .entry)) (word * 8 + head) len) × (r < 2 ^ len) ⌝ }
 {
-    if len <= 8 - head {
+    let one = pieces::ends_within(8, head, len);
+    if one {
         return piece_at(words, order, word, head, len);
     }
     match order {
@@ -67,7 +68,8 @@ pub fn store_by(
     requires { ⌜ (head < 8) × (1 ≤ len) × (len ≤ chunk) × (word * 8 + head + len ≤ length (now words) * 8) ⌝ }
     ensures { λ _. ⌜ now (words .exit) ≡ storeOf 8 order significance (now (words .entry)) (word * 8 + head) len v ⌝ }
 {
-    if len <= 8 - head {
+    let one = pieces::ends_within(8, head, len);
+    if one {
         put_piece(words, order, word, head, len, v);
         return;
     }

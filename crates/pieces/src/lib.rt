@@ -8,6 +8,7 @@ pub use refusals::check_strict;
 use rules::Order;
 use rules::Significance;
 ghost use mathlib.Core.Path.{_≡_};
+ghost use mathlib.Core.Bool.{true, false};
 ghost use Prim.Native.Nat.{_+_, _-_, _*_, _<_, _≤_, _^_};
 ghost use Rattle.rules.proofs.Field.{lowest};
 ghost use Rattle.rules.proofs.Chunk.{masked};
@@ -54,6 +55,17 @@ impl Cut {
     }
 }
 
+// Whether the n bits from index h of a word on end in it.
+pub fn ends_within(width: usize, h: usize, n: usize) -> bool
+    requires { ⌜ (h < width) × (width ≤ 64) × (n ≤ 64) ⌝ }
+    ensures { λ r. ⌜ (r ≡ true → h + n ≤ width) × (r ≡ false → width < h + n) ⌝ }
+{
+    if width == CHUNK {
+        return h <= CHUNK - n;
+    }
+    n <= width - h
+}
+
 // The lowest position of the n bits of a word from index h on.
 pub fn lowest_of(width: usize, order: Order, h: usize, n: usize) -> usize
     requires { ⌜ (1 ≤ n) × (h + n ≤ width) ⌝ }
@@ -65,13 +77,25 @@ pub fn lowest_of(width: usize, order: Order, h: usize, n: usize) -> usize
     }
 }
 
+// How many of 64 bits lie above the bits of a word from index h on that are all but `rest` of 64.
+fn room_above(width: usize, order: Order, h: usize, rest: usize) -> usize
+    requires { ⌜ (rest < 64) × (h + (64 - rest) ≤ width) × (width ≤ 64) ⌝ }
+    ensures { λ r. ⌜ r ≡ rest - lowest width order h (64 - rest) ⌝ }
+{
+    match order {
+        Order::Lsb0 => rest - h,
+        Order::Msb0 => 64 - width + h,
+    }
+}
+
 // The n bits of the word x from index h on, as a number.
 pub fn piece(width: usize, x: u64, order: Order, h: usize, n: usize) -> u64
     requires { ⌜ (1 ≤ n) × (h + n ≤ width) × (width ≤ 64) ⌝ }
     ensures { λ r. ⌜ (r ≡ pieceOf width x order h n) × (r < 2 ^ n) ⌝ }
 {
-    let p = lowest_of(width, order, h, n);
-    (x << (64 - p - n)) >> (64 - n)
+    let rest = 64 - n;
+    let up = room_above(width, order, h, rest);
+    (x << up) >> rest
 }
 
 // The word x with the low n bits of v in place of its n bits from index h on.
@@ -81,9 +105,7 @@ pub fn with_piece(width: usize, x: u64, order: Order, h: usize, n: usize, v: u64
 {
     let p = lowest_of(width, order, h, n);
     let low = rules::low_ones(n);
-    let mask = low << p;
-    let all = rules::low_ones(width);
-    (x & (all - mask)) | (v & low) << p
+    x ^ (((x >> p) ^ v) & low) << p
 }
 
 // The number whose first part is the k bits a, and whose rest is the n bits b.

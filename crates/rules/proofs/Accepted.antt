@@ -51,11 +51,12 @@ fine-bit W n s i e =
 
 -- a field's length and K
 pub record Sized (K len : ℕ) : Type 0 where
+  pub listed : isSize K ≡ true
   pub size : K ≤ 64
   pub some : 0 < len
   pub fitting : len ≤ K
 
-one-of : (K : ℕ) → isSize K ≡ true → K ≤ 64
+pub one-of : (K : ℕ) → isSize K ≡ true → K ≤ 64
 unfolding isSize
 one-of K e = go (eqb K 8) (eqb K 16) (eqb K 32) (eqb K 64) refl refl refl refl e
   where
@@ -73,8 +74,10 @@ fine-sized K len e =
     let l = eqb len 0 || ltb K len in
     let f = fine-parts (NoSuchK when k ∷ []) (FieldLength when l ∷ []) e in
     let g = neither (eqb len 0) (ltb K len) (fine-row FieldLength l (f .1)) in
+    let h = not-false (isSize K) (fine-row NoSuchK k (f .0)) in
     record {
-      size = one-of K (not-false (isSize K) (fine-row NoSuchK k (f .0)));
+      listed = h;
+      size = one-of K h;
       some = positive (eqb-false len 0 (g .0));
       fitting = ltb-false K len (g .1);
     }

@@ -70,6 +70,12 @@ pub bit-small : (a k j : ℕ) → a < 2 ^ k → k ≤ j → bitN a j ≡ 0
 unfolding bitN
 bit-small a k j h l = ap (λ (x : ℕ). x % 2) (div-eq-of-lt (lt-of-lt-of-le h (pow-mono l)))
 
+-- numbers with the same low k bits have the same low j bits, where j is no more than k
+pub same-low : (j k x : ℕ) {y : ℕ} → j ≤ k → x % 2 ^ k ≡ y → x % 2 ^ j ≡ y % 2 ^ j
+same-low j k x h e =
+    let s : k - j + j ≡ k = omega arith in
+    sym (mod-mod-pow x (k - j) j) ∙ ap (λ (i : ℕ). x % 2 ^ i % 2 ^ j) s ∙ ap (λ (z : ℕ). z % 2 ^ j) e
+
 -- the bits below k are those of the remainder
 bit-mod′ : (a d j : ℕ) → bitN (a % 2 ^ (d + 1 + j)) j ≡ bitN a j
 unfolding bitN

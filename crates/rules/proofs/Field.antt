@@ -10,7 +10,7 @@ use Rattle.rules.specs.Types.{Order, Lsb0, Msb0, Significance, Le, Be}
 use Rattle.rules.specs.Bits.{bitN, bitAt}
 use Rattle.rules.specs.Positions.{row, position, spliced, mirror}
 use Rattle.rules.specs.Fields.{pieceFrom, pieceUpto, exponent, loadOf, storeOf, weigh}
-use Rattle.rules.proofs.Bit.{bit-bit, bit-mod, bit-shr, bit-low, bit-high}
+use Rattle.rules.proofs.Bit.{bit-bit, bit-mod, bit-shr, bit-low, bit-high, same-low}
 use native.Mathlib.Decide.{decLt}
 use lib.Pow.{pow-pos, pow-add}
 use lib.Arith.{digits-lt}
@@ -168,6 +168,10 @@ module _ (W : ℕ) (pos : 0 < W) (o : Order) (g : Significance) (ws : List ℕ) 
   store-low v =
       splice-eq W pos o ws at len (λ i. bitN (v % 2 ^ len) (exponent W o g at len i)) (λ i. bitN v (exponent W o g at len i))
       (λ i l. bit-mod v len (exponent W o g at len i) (exponent-renumbers W pos at len o g .below i l))
+
+  -- and so by the low K bits of a number, where there are K at least
+  pub store-alike : (K b : ℕ) {v : ℕ} → len ≤ K → b % 2 ^ K ≡ v → storeOf W o g ws at len b ≡ storeOf W o g ws at len v
+  store-alike K b {v} h e = sym (store-low b) ∙ ap (storeOf W o g ws at len) (same-low len K b h e) ∙ store-low v
 
 -- ---- the field by its pieces, as the document tells it
 

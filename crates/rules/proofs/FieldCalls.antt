@@ -2,7 +2,7 @@
 use mathlib.Core.Path.{_≡_, refl, sym, ap, _∙_}
 use mathlib.Core.Bool.{not}
 use mathlib.Core.List.{List, [], _∷_}
-use Prim.Native.Nat.{ℕ, _+_, _*_, _^_, _≤_, _<_}
+use Prim.Native.Nat.{ℕ, _+_, _*_, _%_, _^_, _≤_, _<_}
 use lib.ListN.{length}
 use lib.IntN.{ℤ}
 use Rattle.rules.specs.Types.{Span, Significance, Sign, Number, Refusal, Verdict, Fine, Refused, NumberAnswer, Number·Is, Number·Refused, WriteAnswer, Done, Write·Refused, DoesNotFit}
@@ -11,6 +11,7 @@ use Rattle.rules.specs.Fields.{loadOf, storeOf, readAs, whole, bitsOf, f
 use Rattle.rules.specs.Refusals.{number, verdict, _when_, spanCases, fieldCases, valueCases, fittingCases, loadCases, storeCases, strictCases}
 use Rattle.rules.specs.Calls.{load, store, strictStore, cases, answer!, after!, answer, after, a-number}
 use Rattle.rules.specs.Answers.{numberSays, writeSays, Gives}
+use Rattle.rules.proofs.Field.{store-alike}
 use Rattle.rules.proofs.Tables.{stops, goes, fine-parts}
 use Rattle.rules.proofs.Sentences.{refused-call, accepted-call}
 
@@ -34,24 +35,24 @@ module _ (W : ℕ) (ws : List ℕ) (s : Span) (K : ℕ) (e : Significance) (g : 
   unfolding cases
   store-refused {r} h q = let c = refused-call W (store s K e g v) ws r h in record { answers = sym (c .0); holds = q ∙ sym (c .1) }
 
-  pub store-done : verdict (storeCases W (length ws) s K g v) ≡ Fine → {m : List ℕ} {b : ℕ} → b ≡ bitsOf K v
+  pub store-done : verdict (storeCases W (length ws) s K g v) ≡ Fine → 0 < W → s .len ≤ K → {m : List ℕ} (b : ℕ) → b % 2 ^ K ≡ bitsOf K v
       → m ≡ storeOf W (s .order) e ws (start W s) (s .len) b → Gives (answer W (store s K e g v) ws) (after W (store s K e g v) ws) (writeSays Done) m
   unfolding cases answer! after!
-  store-done h p q =
+  store-done h w l b p q =
       let c = accepted-call W (store s K e g v) ws h in
-      record { answers = sym (c .0); holds = q ∙ ap (storeOf W (s .order) e ws (start W s) (s .len)) p ∙ sym (c .1) }
+      record { answers = sym (c .0); holds = q ∙ store-alike W w (s .order) e ws (start W s) (s .len) K b l p ∙ sym (c .1) }
 
   pub strict-refused : {r : Refusal} {m : List ℕ} → verdict (strictCases W (length ws) s K g v) ≡ Refused r → m ≡ ws
       → Gives (answer W (strictStore s K e g v) ws) (after W (strictStore s K e g v) ws) (writeSays (Write·Refused r)) m
   unfolding cases
   strict-refused {r} h q = let c = refused-call W (strictStore s K e g v) ws r h in record { answers = sym (c .0); holds = q ∙ sym (c .1) }
 
-  pub strict-done : verdict (strictCases W (length ws) s K g v) ≡ Fine → {m : List ℕ} {b : ℕ} → b ≡ bitsOf K v
+  pub strict-done : verdict (strictCases W (length ws) s K g v) ≡ Fine → 0 < W → s .len ≤ K → {m : List ℕ} (b : ℕ) → b % 2 ^ K ≡ bitsOf K v
       → m ≡ storeOf W (s .order) e ws (start W s) (s .len) b → Gives (answer W (strictStore s K e g v) ws) (after W (strictStore s K e g v) ws) (writeSays Done) m
   unfolding cases answer! after!
-  strict-done h p q =
+  strict-done h w l b p q =
       let c = accepted-call W (strictStore s K e g v) ws h in
-      record { answers = sym (c .0); holds = q ∙ ap (storeOf W (s .order) e ws (start W s) (s .len)) p ∙ sym (c .1) }
+      record { answers = sym (c .0); holds = q ∙ store-alike W w (s .order) e ws (start W s) (s .len) K b l p ∙ sym (c .1) }
 
   -- what strict store accepts, store accepts too, and leaves the same
   pub strict-by-store : verdict (strictCases W (length ws) s K g v) ≡ Fine

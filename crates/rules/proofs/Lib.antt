@@ -26,6 +26,7 @@ pub mod Chunks
 -- words by their indexes, and whole rows
 pub mod MaskBits
 pub mod Merged
+pub mod Exchange
 pub mod Moves
 pub mod Filled
 pub mod RowPieces
@@ -43,6 +44,7 @@ pub mod RowSearch
 pub mod Spans
 pub mod Tables
 pub mod Accepted
+pub mod Begun
 pub mod Room
 pub mod Sizes
 pub mod Widths

@@ -50,15 +50,14 @@ impl Number {
         ensures { λ r. ⌜ r ≡ isInteger k sign (whole self) ⌝ }
     {
         let value = self;
-        let top = low_ones(k);
         match sign {
             Sign::Unsigned => match value {
-                Number::Up(n) => n <= top,
+                Number::Up(n) => n >> (k - 1) <= 1,
                 Number::Down(_) => false,
             },
             Sign::Signed => match value {
-                Number::Up(n) => n <= top / 2,
-                Number::Down(n) => n <= top / 2,
+                Number::Up(n) => n >> (k - 1) == 0,
+                Number::Down(n) => n >> (k - 1) == 0,
             },
         }
     }
@@ -118,15 +117,15 @@ impl Number {
         }
     }
 
-    // The K bits of a K-bit integer.
+    // A number whose low K bits are those of a K-bit integer.
     pub fn bits(self, k: usize, sign: Sign) -> u64
         requires { ⌜ (0 < k) × (k ≤ 64) × (isInteger k sign (whole self) ≡ true) ⌝ }
-        ensures { λ r. ⌜ r ≡ bitsOf k (whole self) ⌝ }
+        ensures { λ r. ⌜ r % 2 ^ k ≡ bitsOf k (whole self) ⌝ }
     {
         let value = self;
         match value {
             Number::Up(n) => n,
-            Number::Down(n) => low_ones(k) - n,
+            Number::Down(n) => 0xffff_ffff_ffff_ffff - n,
         }
     }
 

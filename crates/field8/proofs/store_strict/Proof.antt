@@ -44,7 +44,7 @@ returns-2 : tie.Need-returns-2
 unfolding start
 returns-2 c = let s = c .before .before in
     let b = s .before .before in
-    strict-done 8 _ _ _ _ _ _ (fine (b .before)) (b .bits .ensures) (s .store-by .ensures)
+    strict-done 8 _ _ _ _ _ _ (fine (b .before)) (omega arith) (held (b .before) .fitted .valued .sized .fitting) _ (b .bits .ensures) (s .store-by .ensures)
 
 pub store-strict-spec : {M : Type 1} → statement M
 store-strict-spec =

@@ -2,18 +2,25 @@
 use borrow.Author.Needs.{needs}
 use native.Mathlib.Omega.{arith}
 use mathlib.Core.Path.{refl}
+use Prim.Native.Nat.{_+_, _≤_, _<_}
 use Rattle.rules.proofs.Chunk.{own}
 use Rattle.field8.proofs.pairings.load_by.Statement.{statement}
 use Rattle.field8.proofs.pairings.load_by.Tie as tie
 
-sub-if1 : tie.Need-sub-if1
-sub-if1 c = search needs
+inside : (c : tie.Then1) → (let a = c .before .before .before .args in a .head + a .len ≤ 8)
+inside c = c .before .ends-within .ensures .0 (c .if1 .taken)
+
+beyond : (c : tie.Else1) → (let a = c .before .before .before .args in 8 < a .head + a .len)
+beyond c = c .before .ends-within .ensures .1 (c .if1 .left)
+
+ends-within-requires : tie.Need-ends-within-requires
+ends-within-requires c κs = search needs
 
 piece-at-requires : tie.Need-piece-at-requires
-piece-at-requires c κs = search needs
+piece-at-requires c κs = let p = c .before .before .before .pre in (p .1, inside c, omega arith)
 
 returns : tie.Need-returns
-returns c = let a = c .before .before .before .args in (c .piece-at .ensures .0 (a .significance), c .piece-at .ensures .1)
+returns c = let a = c .before .before .before .before .args in (c .piece-at .ensures .0 (a .significance), c .piece-at .ensures .1)
 
 enum-told : tie.Need-enum-told
 enum-told c = search needs
@@ -30,18 +37,18 @@ pays-requires c κs = search needs
 load-near-requires : tie.Need-load-near-requires
 unfolding own
 load-near-requires c κs = let d = c in
-    let p = d .before .before .before .before .before .before .before .before .pre in
+    let p = d .before .before .before .before .before .before .before .before .before .pre in
     let room = d .before .pays .ensures (d .if2 .taken) in
     (p .0, p .1, p .2, p .3, omega arith, refl)
 
 load-bits-requires : tie.Need-load-bits-requires
-load-bits-requires c κs = search needs
+load-bits-requires c κs = let e = c .before .before .before .before .before .before in let p = e .before .before .before .pre in (p .0, beyond e, p .2, p .3)
 
 enum-told-3 : tie.Need-enum-told-3
 enum-told-3 c = search needs
 
 load-bits-requires-2 : tie.Need-load-bits-requires-2
-load-bits-requires-2 c κs = search needs
+load-bits-requires-2 c κs = let e = c .before .before .before .before in let p = e .before .before .before .pre in (p .0, beyond e, p .2, p .3)
 
 enum-told-4 : tie.Need-enum-told-4
 enum-told-4 c = search needs
@@ -50,7 +57,7 @@ enum-told-5 : tie.Need-enum-told-5
 enum-told-5 c = search needs
 
 load-bits-requires-3 : tie.Need-load-bits-requires-3
-load-bits-requires-3 c κs = search needs
+load-bits-requires-3 c κs = let e = c .before .before .before .before in let p = e .before .before .before .pre in (p .0, beyond e, p .2, p .3)
 
 enum-told-6 : tie.Need-enum-told-6
 enum-told-6 c = search needs
@@ -64,12 +71,12 @@ pays-requires-2 c κs = search needs
 load-near-requires-2 : tie.Need-load-near-requires-2
 unfolding own
 load-near-requires-2 c κs = let d = c in
-    let p = d .before .before .before .before .before .before .before .before .pre in
+    let p = d .before .before .before .before .before .before .before .before .before .pre in
     let room = d .before .pays2 .ensures (d .if3 .taken) in
     (p .0, p .1, p .2, p .3, omega arith, refl)
 
 load-bits-requires-4 : tie.Need-load-bits-requires-4
-load-bits-requires-4 c κs = search needs
+load-bits-requires-4 c κs = let e = c .before .before .before .before .before .before in let p = e .before .before .before .pre in (p .0, beyond e, p .2, p .3)
 
 returns-2 : tie.Need-returns-2
 returns-2 c = rw (c .before .before .before .before .before .enum-told .given .1, c .before .before .before .enum-told2 .given .1) (c .load-near .ensures)
@@ -93,7 +100,7 @@ pub load-by-spec : {M : Type 1} → statement M
 load-by-spec =
     tie.close
     (tie.spec
-    sub-if1
+    ends-within-requires
     piece-at-requires
     returns
     enum-told

@@ -2,21 +2,28 @@
 use borrow.Author.Needs.{needs}
 use native.Mathlib.Omega.{arith}
 use mathlib.Core.Path.{refl}
+use Prim.Native.Nat.{_+_, _≤_, _<_}
 use Rattle.rules.proofs.Chunk.{own}
 use Rattle.field8.proofs.pairings.store_by.Statement.{statement}
 use Rattle.field8.proofs.pairings.store_by.Tie as tie
 
-sub-if1 : tie.Need-sub-if1
-sub-if1 c = search needs
+inside : (c : tie.Then1) → (let a = c .before .before .before .args in a .head + a .len ≤ 8)
+inside c = c .before .ends-within .ensures .0 (c .if1 .taken)
+
+beyond : (c : tie.Else1) → (let a = c .before .before .before .args in 8 < a .head + a .len)
+beyond c = c .before .ends-within .ensures .1 (c .if1 .left)
+
+ends-within-requires : tie.Need-ends-within-requires
+ends-within-requires c κs = search needs
 
 put-piece-requires : tie.Need-put-piece-requires
-put-piece-requires c κs = search needs
+put-piece-requires c κs = let p = c .before .before .before .before .pre in (p .1, inside (c .before), omega arith)
 
 same-length : tie.Need-same-length
 same-length c = search needs
 
 returns : tie.Need-returns
-returns c = let p = c .before .before in p .put-piece .ensures (p .before .before .before .before .args .significance)
+returns c = let p = c .before .before in p .put-piece .ensures (p .before .before .before .before .before .args .significance)
 
 enum-told : tie.Need-enum-told
 enum-told c = search needs
@@ -33,18 +40,18 @@ pays-requires c κs = search needs
 store-near-requires : tie.Need-store-near-requires
 unfolding own
 store-near-requires c κs = let d = c .before in
-    let p = d .before .before .before .before .before .before .before .before .pre in
+    let p = d .before .before .before .before .before .before .before .before .before .pre in
     let room = d .before .pays .ensures (d .if2 .taken) in
     (p .0, p .1, p .2, p .3, omega arith, refl)
 
 store-bits-requires : tie.Need-store-bits-requires
-store-bits-requires c κs = search needs
+store-bits-requires c κs = let e = c .before .before .before .before .before .before .before in let p = e .before .before .before .pre in (p .0, beyond e, p .2, p .3)
 
 enum-told-3 : tie.Need-enum-told-3
 enum-told-3 c = search needs
 
 store-bits-requires-2 : tie.Need-store-bits-requires-2
-store-bits-requires-2 c κs = search needs
+store-bits-requires-2 c κs = let e = c .before .before .before .before .before in let p = e .before .before .before .pre in (p .0, beyond e, p .2, p .3)
 
 enum-told-4 : tie.Need-enum-told-4
 enum-told-4 c = search needs
@@ -53,7 +60,7 @@ enum-told-5 : tie.Need-enum-told-5
 enum-told-5 c = search needs
 
 store-bits-requires-3 : tie.Need-store-bits-requires-3
-store-bits-requires-3 c κs = search needs
+store-bits-requires-3 c κs = let e = c .before .before .before .before .before in let p = e .before .before .before .pre in (p .0, beyond e, p .2, p .3)
 
 enum-told-6 : tie.Need-enum-told-6
 enum-told-6 c = search needs
@@ -67,12 +74,12 @@ pays-requires-2 c κs = search needs
 store-near-requires-2 : tie.Need-store-near-requires-2
 unfolding own
 store-near-requires-2 c κs = let d = c .before in
-    let p = d .before .before .before .before .before .before .before .before .pre in
+    let p = d .before .before .before .before .before .before .before .before .before .pre in
     let room = d .before .pays2 .ensures (d .if3 .taken) in
     (p .0, p .1, p .2, p .3, omega arith, refl)
 
 store-bits-requires-4 : tie.Need-store-bits-requires-4
-store-bits-requires-4 c κs = search needs
+store-bits-requires-4 c κs = let e = c .before .before .before .before .before .before .before in let p = e .before .before .before .pre in (p .0, beyond e, p .2, p .3)
 
 same-length-2 : tie.Need-same-length-2
 same-length-2 c = search needs
@@ -114,7 +121,7 @@ pub store-by-spec : {M : Type 1} → statement M
 store-by-spec =
     tie.close
     (tie.spec
-    sub-if1
+    ends-within-requires
     put-piece-requires
     same-length
     returns

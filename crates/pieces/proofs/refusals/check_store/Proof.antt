@@ -1,13 +1,20 @@
--- `check_store`: what the span is refused for, or the rows that follow. Assumes nothing.
+-- `check_store`: what a load is refused for, or the row that follows. Assumes nothing.
 use borrow.Author.Needs.{needs}
 use mathlib.Core.Path.{_≡_, sym, _∙_}
-use Rattle.rules.specs.Refusals.{storeCases}
-use Rattle.rules.proofs.Tables.{stops, goes}
+use native.Mathlib.Omega.{arith}
+use Rattle.rules.specs.declared.Verdict.the-variants.{Fine}
+use Rattle.rules.specs.Bits.{bits}
+use Rattle.rules.specs.Refusals.{verdict, loadCases}
+use Rattle.rules.proofs.Accepted.{fine-load}
+use Rattle.rules.proofs.Begun.{store-stops, store-refused-8, store-fine}
 use Rattle.pieces.proofs.refusals.check_store.Statement.{statement}
 use Rattle.pieces.proofs.refusals.check_store.Tie as tie
 
-check-requires : tie.Need-check-requires
-check-requires c κs = search needs
+fine : (c : tie.After-enum-told) → (let a = c .before .before .before .args in verdict (loadCases (bits (a .width)) (a .lent) (a .span) (a .k)) ≡ Fine)
+fine c = sym (c .before .before .check-load .ensures) ∙ c .enum-told .given .1
+
+check-load-requires : tie.Need-check-load-requires
+check-load-requires c κs = search needs
 
 enum-known-verdict : tie.Need-enum-known-verdict
 enum-known-verdict c = search needs
@@ -15,18 +22,26 @@ enum-known-verdict c = search needs
 enum-told : tie.Need-enum-told
 enum-told c = search needs
 
-check-requires-2 : tie.Need-check-requires-2
-check-requires-2 c κs = search needs
+is-integer-requires : tie.Need-is-integer-requires
+is-integer-requires c κs = let z = fine-load _ _ _ _ (fine c) .sized in (omega arith, z .size)
 
 returns : tie.Need-returns
-unfolding storeCases
-returns c = sym (stops _ _ (sym (c .before .before .before .check .ensures) ∙ c .before .verdict .given .1))
+returns c = sym (store-stops _ _ _ _ _ _ (sym (c .before .before .before .check-load .ensures) ∙ c .before .verdict .given .1))
 
 returns-2 : tie.Need-returns-2
-unfolding storeCases
-returns-2 c = c .check2 .ensures ∙ sym (goes _ _ (sym (c .before .before .before .check .ensures) ∙ c .before .enum-told .given .1))
+returns-2 c = sym (store-fine _ _ _ _ _ _ (fine (c .before .before)) (sym (c .before .is-integer .ensures) ∙ c .if1 .taken))
+
+returns-3 : tie.Need-returns-3
+returns-3 c = sym (store-refused-8 _ _ _ _ _ _ (fine (c .before .before)) (sym (c .before .is-integer .ensures) ∙ c .if1 .left))
 
 pub check-store-spec : {M : Type 1} → statement M
 check-store-spec =
     tie.close
-    (tie.spec check-requires enum-known-verdict enum-told check-requires-2 returns returns-2)
+    (tie.spec
+    check-load-requires
+    enum-known-verdict
+    enum-told
+    is-integer-requires
+    returns
+    returns-2
+    returns-3)

@@ -2,7 +2,7 @@
 use borrow.Author.Needs.{needs}
 use Rattle.rules.proofs.Number.fitting_bits.Statement.{statement}
 use Rattle.rules.proofs.Number.fitting_bits.Tie as tie
-use mathlib.Core.Path.{_≡_, sym, ap, _∙_}
+use mathlib.Core.Path.{_≡_, refl, sym, ap, _∙_}
 use native.Mathlib.Omega.{arith}
 use Prim.Native.Nat.{ℕ}
 use lib.IntN.{pos}
@@ -10,6 +10,7 @@ use Rattle.rules.specs.Types.{Fine}
 use Rattle.rules.specs.Fields.{whole}
 use Rattle.rules.specs.Refusals.{verdict, fittingCases}
 use Rattle.rules.specs.Calls.{a-number, fittingAnswer}
+use Rattle.rules.proofs.Bit.{same-low}
 use Rattle.rules.proofs.Accepted.{Valued, fine-fitted}
 use Rattle.rules.proofs.Wordless.{said-refused, said-fine, low-part}
 
@@ -40,7 +41,7 @@ returns c = said-refused _ (sym (c .before .before .before .check-fit .ensures) 
 
 returns-2 : tie.Need-returns-2
 unfolding fittingAnswer
-returns-2 c = said-fine (fine (c .before .before)) (ap (λ (u : ℕ). a-number (pos u)) (low-part _ (c .before .bits .ensures) (c .low-ones .ensures)))
+returns-2 c = said-fine (fine (c .before .before)) (ap (λ (u : ℕ). a-number (pos u)) (low-part _ refl (c .low-ones .ensures) ∙ same-low _ _ _ (accepted (c .before .before) .sized .fitting) (c .before .bits .ensures)))
 
 pub fitting-bits-spec : {M : Type 1} → statement M
 fitting-bits-spec =

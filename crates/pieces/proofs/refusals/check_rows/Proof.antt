@@ -1,10 +1,10 @@
--- `check_load`: what the span is refused for, or the rows that follow. Assumes nothing.
+-- `check_rows`: what the span is refused for, or the rows that follow. Assumes nothing.
 use borrow.Author.Needs.{needs}
 use mathlib.Core.Path.{_≡_, sym, _∙_}
 use Rattle.rules.specs.Refusals.{loadCases}
 use Rattle.rules.proofs.Tables.{stops, goes}
-use Rattle.pieces.proofs.refusals.check_load.Statement.{statement}
-use Rattle.pieces.proofs.refusals.check_load.Tie as tie
+use Rattle.pieces.proofs.refusals.check_rows.Statement.{statement}
+use Rattle.pieces.proofs.refusals.check_rows.Tie as tie
 
 check-requires : tie.Need-check-requires
 check-requires c κs = search needs
@@ -26,7 +26,7 @@ returns-2 : tie.Need-returns-2
 unfolding loadCases
 returns-2 c = c .check-field .ensures ∙ sym (goes _ _ (sym (c .before .before .before .check .ensures) ∙ c .before .enum-told .given .1))
 
-pub check-load-spec : {M : Type 1} → statement M
-check-load-spec =
+pub check-rows-spec : {M : Type 1} → statement M
+check-rows-spec =
     tie.close
     (tie.spec check-requires enum-known-verdict enum-told check-field-requires returns returns-2)
