@@ -41,4 +41,6 @@ try_pages c quick_start
 try 'canary test compiles' c11 "$root"/tests/c/*.c "$archive" -o "$work/canaries"
 try 'canary test' "$work/canaries" 10000 4
 try 'canary test under valgrind' watched "$work/canaries" 250 0
+try 'fields to count compile' c11 "$root/compare/instructions/fields.c" "$archive" -o "$work/fields"
+try 'fields to count are accepted' "$work/fields" store 8 1 64 1 0
 say_count

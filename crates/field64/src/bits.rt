@@ -44,7 +44,7 @@ pub fn load_bits(
     requires { ⌜ (head < 64) × (64 < head + len) × (len ≤ chunk) × (word * 64 + head + len ≤ length (now words) * 64) ⌝ }
     ensures { λ r. ⌜ (r ≡ loadOf 64 order significance (now (words .entry)) (word * 64 + head) len) × (r < 2 ^ len) ⌝ }
 {
-    let cut = Cut::of(64, head, len);
+    let cut = Cut::across(64, head, len);
     let first = cut.first;
     let whole = cut.whole;
     let last = cut.last;
@@ -88,7 +88,7 @@ pub fn store_bits(
     requires { ⌜ (head < 64) × (64 < head + len) × (len ≤ chunk) × (word * 64 + head + len ≤ length (now words) * 64) ⌝ }
     ensures { λ _. ⌜ now (words .exit) ≡ storeOf 64 order significance (now (words .entry)) (word * 64 + head) len v ⌝ }
 {
-    let cut = Cut::of(64, head, len);
+    let cut = Cut::across(64, head, len);
     let first = cut.first;
     let whole = cut.whole;
     let last = cut.last;

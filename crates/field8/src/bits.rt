@@ -44,7 +44,7 @@ pub fn load_bits(
     requires { ⌜ (head < 8) × (8 < head + len) × (len ≤ chunk) × (word * 8 + head + len ≤ length (now words) * 8) ⌝ }
     ensures { λ r. ⌜ (r ≡ loadOf 8 order significance (now (words .entry)) (word * 8 + head) len) × (r < 2 ^ len) ⌝ }
 {
-    let cut = Cut::of(8, head, len);
+    let cut = Cut::across(8, head, len);
     let first = cut.first;
     let whole = cut.whole;
     let last = cut.last;
@@ -88,7 +88,7 @@ pub fn store_bits(
     requires { ⌜ (head < 8) × (8 < head + len) × (len ≤ chunk) × (word * 8 + head + len ≤ length (now words) * 8) ⌝ }
     ensures { λ _. ⌜ now (words .exit) ≡ storeOf 8 order significance (now (words .entry)) (word * 8 + head) len v ⌝ }
 {
-    let cut = Cut::of(8, head, len);
+    let cut = Cut::across(8, head, len);
     let first = cut.first;
     let whole = cut.whole;
     let last = cut.last;

@@ -31,14 +31,22 @@ impl Cut {
         requires { ⌜ (head < width) × (1 ≤ len) × (len ≤ 64) ⌝ }
         ensures { λ r. ⌜ Cuts width head len (r .first) (r .whole) (r .last) ⌝ }
     {
-        let room = width - head;
-        if len <= room {
+        if len <= width - head {
             return Cut {
                 first: len,
                 whole: 0,
                 last: 0,
             };
         }
+        Cut::across(width, head, len)
+    }
+
+    // The same of bits that do not end in the word.
+    pub fn across(width: usize, head: usize, len: usize) -> Cut
+        requires { ⌜ (head < width) × (width < head + len) × (len ≤ 64) ⌝ }
+        ensures { λ r. ⌜ Cuts width head len (r .first) (r .whole) (r .last) ⌝ }
+    {
+        let room = width - head;
         let rest = len - room;
         if width == CHUNK {
             return Cut {
@@ -104,8 +112,8 @@ pub fn with_piece(width: usize, x: u64, order: Order, h: usize, n: usize, v: u64
     ensures { λ r. ⌜ (r ≡ masked width x (lowest width order h n) n v) × (r < 2 ^ width) ⌝ }
 {
     let p = lowest_of(width, order, h, n);
-    let low = rules::low_ones(n);
-    x ^ (((x >> p) ^ v) & low) << p
+    let mask = rules::low_ones(n) << p;
+    x ^ (x ^ v << p) & mask
 }
 
 // The number whose first part is the k bits a, and whose rest is the n bits b.

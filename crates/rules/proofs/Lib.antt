@@ -21,6 +21,7 @@ pub mod Chunk
 pub mod Funnel
 pub mod Cuts
 pub mod Wholes
+pub mod Turned
 pub mod Pieces
 pub mod Chunks
 -- words by their indexes, and whole rows

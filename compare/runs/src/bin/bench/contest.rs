@@ -12,11 +12,12 @@ pub enum Who {
     Library,
     Bitvec,
     Plain,
+    Checked,
     Memory,
 }
 
 impl Who {
-    pub const ALL: [Who; 4] = [Who::Library, Who::Bitvec, Who::Plain, Who::Memory];
+    pub const ALL: [Who; 5] = [Who::Library, Who::Bitvec, Who::Plain, Who::Checked, Who::Memory];
 }
 
 /// The words of a job. All contestants work on the same.
@@ -69,7 +70,7 @@ pub struct Contest<T> {
 }
 
 /// The best time of each contestant for the job done once, in nanoseconds.
-pub type Times = [Option<f64>; 4];
+pub type Times = [Option<f64>; Who::ALL.len()];
 
 /// How long one timing takes, at least where the job is short.
 const SLICE: f64 = 300_000.0;
@@ -84,7 +85,7 @@ impl<T: Width> Contest<T> {
                 (SLICE / self.time(n, 1)).ceil() as usize
             })
             .collect();
-        let mut times: Times = [None; 4];
+        let mut times: Times = [None; Who::ALL.len()];
         for _ in 0..rounds {
             for (n, &goes) in goes.iter().enumerate() {
                 let each = self.time(n, goes) / (goes * self.repeat) as f64;
@@ -104,7 +105,7 @@ impl<T: Width> Contest<T> {
         begun.elapsed().as_nanos() as f64
     }
 
-    /// Stops unless bitvec and plain Rust answer and leave what the library does.
+    /// Stops unless bitvec and Rust by hand answer and leave what the library does.
     fn check(&self) {
         let done = |work: &Work<T>| {
             let mut buffers = self.buffers.clone();

@@ -13,7 +13,7 @@ use runs::random::Random;
 use crate::{
     contest::{Buffers, Contest, Who, Work},
     plain::Plain,
-    width::{Calls, Kind, Row, Width},
+    width::{done, Calls, Checked, Kind, Row, Width},
 };
 
 /// How many fields are taken in one go, and from how many words.
@@ -49,11 +49,12 @@ pub fn contest<T: Width>(job: Job, order: u8, kind: Kind) -> Contest<T> {
         (Job::Store, 0) => bitvec_store::<T, Lsb0>(places.clone(), kind),
         (Job::Store, _) => bitvec_store::<T, Msb0>(places.clone(), kind),
     };
-    let works = vec![
+    let mut works = vec![
         (Who::Library, by_calls::<T, T::Library>(job, places.clone(), kind)),
         (Who::Bitvec, bitvec),
-        (Who::Plain, by_calls::<T, T::PlainRust>(job, places, kind)),
+        (Who::Plain, by_calls::<T, T::PlainRust>(job, places.clone(), kind)),
     ];
+    works.extend(T::CHECKED.map(|calls| (Who::Checked, by_hand(job, places, kind, calls))));
     Contest { buffers: Buffers::random(WORDS), works, repeat: FIELDS }
 }
 
@@ -101,6 +102,27 @@ fn by_calls<T: Width, C: Calls<T>>(job: Job, places: Vec<Row>, kind: Kind) -> Wo
         Job::Load => each_load(places, move |words: &[T], row| C::load(words, row, kind)),
         Job::Store => each_store(places, move |words: &mut [T], row, value| {
             C::store(words, row, kind, value);
+        }),
+    }
+}
+
+/// The work of fields by hand, with every refusal.
+fn by_hand<T: Width>(job: Job, places: Vec<Row>, kind: Kind, calls: Checked<T>) -> Work<T> {
+    let Kind { k, significance, sign } = kind;
+    match job {
+        Job::Load => each_load(places, move |words: &[T], row| {
+            let (mut out, lent) = (0, words.len());
+            let Row { order, word, head, length } = row;
+            let load = calls.load;
+            let code =
+                unsafe { load(words.as_ptr(), lent, order, word, head, length, k, significance, sign, &mut out) };
+            out | done(code)
+        }),
+        Job::Store => each_store(places, move |words: &mut [T], row, value| {
+            let (pointer, lent) = (words.as_mut_ptr(), words.len());
+            let Row { order, word, head, length } = row;
+            let store = calls.store;
+            unsafe { store(pointer, lent, order, word, head, length, k, significance, sign, 0, value) };
         }),
     }
 }

@@ -108,6 +108,7 @@ pub fn name(who: Who) -> &'static str {
         Who::Library => "library",
         Who::Bitvec => "bitvec",
         Who::Plain => "plain",
+        Who::Checked => "checked",
         Who::Memory => "mem*",
     }
 }

@@ -21,6 +21,7 @@ fn colour(who: Who) -> &'static str {
         Who::Library => "#1f5fa8",
         Who::Bitvec => "#d9822b",
         Who::Plain => "#8a8a8a",
+        Who::Checked => "#b04a5a",
         Who::Memory => "#4f9d69",
     }
 }
@@ -83,9 +84,9 @@ pub fn svg(lines: &[&Line]) -> String {
     svg + "</svg>\n"
 }
 
-/// Which colour is whose.
+/// Which colour is whose. No row is done by hand with its refusals.
 fn legend(svg: &mut String) {
-    for (n, who) in Who::ALL.into_iter().enumerate() {
+    for (n, who) in Who::ALL.into_iter().filter(|who| *who != Who::Checked).enumerate() {
         let x = LEFT + 110.0 * n as f64;
         writeln!(svg, "<rect x=\"{x}\" y=\"34\" width=\"10\" height=\"10\" fill=\"{}\"/>", colour(who)).unwrap();
         writeln!(svg, "<text x=\"{}\" y=\"43\">{}</text>", x + 14.0, name(who)).unwrap();

@@ -7,7 +7,7 @@ use crate::{
     line::{name, Line, Part},
 };
 
-const OTHERS: [Who; 3] = [Who::Bitvec, Who::Plain, Who::Memory];
+const OTHERS: [Who; 4] = [Who::Bitvec, Who::Plain, Who::Checked, Who::Memory];
 
 /// A number of three or so digits; a dash for none.
 fn short(number: Option<f64>) -> String {
@@ -54,10 +54,10 @@ pub fn print(lines: &[Line]) {
         let rows = lines.iter().filter(|line| line.part == part).map(cells);
         for cells in std::iter::once(heads()).chain(rows) {
             print!("{:<34}{:>3} {:<5}{:>6} ", cells[0], cells[1], cells[2], cells[3]);
-            cells[4..8].iter().for_each(|figure| print!("{figure:>8}"));
+            cells[4..9].iter().for_each(|figure| print!("{figure:>8}"));
             print!(" |");
-            cells[8..11].iter().for_each(|ratio| print!("{ratio:>9}"));
-            println!("  {}", cells[11]);
+            cells[9..13].iter().for_each(|ratio| print!("{ratio:>9}"));
+            println!("  {}", cells[13]);
         }
     }
 }

@@ -44,10 +44,19 @@ pub struct Library;
 /// Plain Rust's.
 pub struct PlainRust;
 
+/// A load and a store with the signatures of the exported ones.
+pub struct Checked<T> {
+    pub load: unsafe extern "C" fn(*const T, usize, u8, usize, usize, usize, usize, u8, u8, *mut u64) -> u8,
+    pub store: unsafe extern "C" fn(*mut T, usize, u8, usize, usize, usize, usize, u8, u8, u8, u64) -> u8,
+}
+
 /// A word's type with both.
 pub trait Width: Lent + Plain {
     type Library: Calls<Self>;
     type PlainRust: Calls<Self>;
+
+    /// Fields by hand with every refusal, where that is written.
+    const CHECKED: Option<Checked<Self>>;
 
     /// The fields of k bits that begin at a head of a word each, loaded by Rattle code: a mix of their numbers.
     fn known_loads(words: &[Self], places: &[usize], heads: &[usize], k: usize) -> u64;
@@ -57,10 +66,12 @@ pub trait Width: Lent + Plain {
 }
 
 macro_rules! width {
-    ($word:ty, $loads:path, $stores:path) => {
+    ($word:ty, $loads:path, $stores:path, $checked:expr) => {
         impl Width for $word {
             type Library = Library;
             type PlainRust = PlainRust;
+
+            const CHECKED: Option<Checked<$word>> = $checked;
 
             fn known_loads(words: &[$word], places: &[usize], heads: &[usize], k: usize) -> u64 {
                 let mut mix = 0;
@@ -77,8 +88,13 @@ macro_rules! width {
     };
 }
 
-width!(u8, known::known8_loads, known::known8_stores);
-width!(u64, known::known64_loads, known::known64_stores);
+width!(u8, known::known8_loads, known::known8_stores, None);
+width!(
+    u64,
+    known::known64_loads,
+    known::known64_stores,
+    Some(Checked { load: plain::checked::load, store: plain::checked::store })
+);
 
 /// The calls of one of the two. Each answers a number that shows a refusal too.
 pub trait Calls<T>: 'static {
@@ -96,7 +112,7 @@ pub trait Calls<T>: 'static {
 pub const ABSENT: u64 = u64::MAX - 1;
 
 /// 0 where accepted; a number that no answer is, where refused.
-fn done(code: u8) -> u64 {
+pub fn done(code: u8) -> u64 {
     if code == 0 {
         0
     } else {

@@ -12,11 +12,11 @@ use Rattle.field64.proofs.bits.load_bits.Statement.{statement}
 use Rattle.field64.proofs.bits.load_bits.Tie as tie
 
 -- what follows the first piece
-rest : (c : tie.After-piece-at) → (let r = c .before .of .result in r .whole * 64 + r .last ≡ c .before .before .before .args .len - r .first)
-rest c = let k = c .before .of .ensures .all in omega arith
+rest : (c : tie.After-piece-at) → (let r = c .before .across .result in r .whole * 64 + r .last ≡ c .before .before .before .args .len - r .first)
+rest c = let k = c .before .across .ensures .all in omega arith
 
-of-requires : tie.Need-of-requires
-of-requires c κs = search needs
+across-requires : tie.Need-across-requires
+across-requires c κs = search needs
 
 piece-at-requires : tie.Need-piece-at-requires
 piece-at-requires c κs = search needs
@@ -25,9 +25,9 @@ add-load-rest : tie.Need-add-load-rest
 add-load-rest c = search needs
 
 load-rest-requires : tie.Need-load-rest-requires
-load-rest-requires c κs = let k = c .before .of .ensures .all in
-    let e = c .before .of .ensures .edge (omega arith) in
-    let l = c .before .of .ensures .rest in
+load-rest-requires c κs = let k = c .before .across .ensures .all in
+    let e = c .before .across .ensures .edge (omega arith) in
+    let l = c .before .across .ensures .rest in
     (omega arith, omega arith, omega arith)
 
 sub-join : tie.Need-sub-join
@@ -41,20 +41,20 @@ returns : tie.Need-returns
 returns c = let d = c .before .before in
     let k = d .before in
     let a = k .before .before .args in
-    let r = k .of .result in
+    let r = k .across .result in
     let m = r .whole * 64 + r .last in
     let e = rest d in
-    let w = k .of .ensures .all in
+    let w = k .across .ensures .all in
     load-fits 64 (lit< tt) (a .order) (a .significance) (now (a .words)) (a .word * 64 + a .head) (a .len)
     (c .join .ensures ∙ ap (joined (a .significance) (d .piece-at .result) (r .first) (c .before .load-rest .result)) (sym e)
-    ∙ load-rest 64 (lit< tt) (a .order) (a .significance) (now (a .words)) (a .word) (a .head) (r .first) m (k .of .ensures .edge (omega arith)) (d .piece-at .ensures .0 (a .significance)) (c .before .load-rest .ensures .0)
+    ∙ load-rest 64 (lit< tt) (a .order) (a .significance) (now (a .words)) (a .word) (a .head) (r .first) m (k .across .ensures .edge (omega arith)) (d .piece-at .ensures .0 (a .significance)) (c .before .load-rest .ensures .0)
     ∙ ap (loadOf 64 (a .order) (a .significance) (now (a .words)) (a .word * 64 + a .head)) (omega arith))
 
 pub load-bits-spec : {M : Type 1} → statement M
 load-bits-spec =
     tie.close
     (tie.spec
-    of-requires
+    across-requires
     piece-at-requires
     add-load-rest
     load-rest-requires

@@ -12,8 +12,8 @@ use Rattle.rules.proofs.Pieces.{store-rest}
 use Rattle.field64.proofs.bits.store_bits.Statement.{statement}
 use Rattle.field64.proofs.bits.store_bits.Tie as tie
 
-of-requires : tie.Need-of-requires
-of-requires c κs = search needs
+across-requires : tie.Need-across-requires
+across-requires c κs = search needs
 
 sub-first-of : tie.Need-sub-first-of
 sub-first-of c = search needs
@@ -34,9 +34,9 @@ store-rest-requires : tie.Need-store-rest-requires
 store-rest-requires c κs = let p = c .before .before .before .before in
     let d = p .before .before .before in
     let a = d .before .before .args in
-    let k = d .of .ensures .all in
-    let e = d .of .ensures .edge (omega arith) in
-    let l = d .of .ensures .rest in
+    let k = d .across .ensures .all in
+    let e = d .across .ensures .edge (omega arith) in
+    let l = d .across .ensures .rest in
     let n : length (p .put-piece .last .0) ≡ length (now (a .words)) = ap length (p .put-piece .ensures (a .significance)) ∙ length-store 64 _ _ _ _ _ _ in
     (omega arith, omega arith, omega arith)
 
@@ -50,13 +50,13 @@ returns c = let s = c .before .before in
     let f = p .before .before in
     let d = f .before in
     let a = d .before .before .args in
-    let r = d .of .result in
-    let k = d .of .ensures .all in
+    let r = d .across .result in
+    let k = d .across .ensures .all in
     let g = a .significance in
     let o = a .order in
     let m = r .whole * 64 + r .last in
     let rest : a .len - r .first ≡ m = omega arith in
-    store-rest 64 (lit< tt) o g (now (a .words)) (a .word) (a .head) (r .first) m (d .of .ensures .edge (omega arith)) (a .v)
+    store-rest 64 (lit< tt) o g (now (a .words)) (a .word) (a .head) (r .first) m (d .across .ensures .edge (omega arith)) (a .v)
     (p .put-piece .ensures g ∙ ap (storeOf 64 o g (now (a .words)) (a .word * 64 + a .head) (r .first)) (f .first-of .ensures ∙ ap (firstOf g (a .v)) rest))
     (s .store-rest .ensures ∙ ap (storeOf 64 o g (p .put-piece .last .0) ((a .word + 1) * 64) m) (b .rest-of .ensures))
     ∙ ap (λ (x : ℕ). storeOf 64 o g (now (a .words)) (a .word * 64 + a .head) x (a .v)) (omega arith)
@@ -65,7 +65,7 @@ pub store-bits-spec : {M : Type 1} → statement M
 store-bits-spec =
     tie.close
     (tie.spec
-    of-requires
+    across-requires
     sub-first-of
     first-of-requires
     put-piece-requires

@@ -1,9 +1,22 @@
--- `chunk_at`: a chunk is eight words, of the significance of the arm. Assumes nothing.
+-- `chunk_at`: a chunk is eight words by le, turned for be. Assumes nothing.
 use borrow.Author.Needs.{needs}
+use mathlib.Core.Path.{_≡_, _∙_, ap}
+use Prim.Native.Nat.{_*_}
+use lib.Dec.{lit<}
+use denote.Ref.{now}
 use Rattle.rules.specs.declared.Order.the-variants.{Lsb0, Msb0}
+use Rattle.rules.specs.declared.Significance.the-variants.{Be}
+use Rattle.rules.specs.Fields.{loadOf}
 use Rattle.rules.proofs.Chunk.{own}
+use Rattle.rules.proofs.Cuts.{load-fits}
+use Rattle.rules.proofs.Turned.{turned, turned-load}
 use Rattle.field8.proofs.chunks.chunk_at.Statement.{statement}
 use Rattle.field8.proofs.chunks.chunk_at.Tie as tie
+
+big : (c : tie.After-turn-eight) → (let a = c .before .before .before .before .before .args in c .turn-eight .result ≡ loadOf 8 Msb0 Be (now (a .words)) (a .at * 8) 64)
+big c =
+    let a = c .before .before .before .before .before .args in
+    c .turn-eight .ensures ∙ ap (turned 8 3) (c .before .eight-at2 .ensures .0 Msb0) ∙ turned-load 8 (lit< tt) Msb0 (now (a .words)) 3 (a .at)
 
 enum-told : tie.Need-enum-told
 enum-told c = search needs
@@ -17,15 +30,27 @@ enum-told-2 c = search needs
 eight-at-requires-2 : tie.Need-eight-at-requires-2
 eight-at-requires-2 c κs = search needs
 
+turn-eight-requires : tie.Need-turn-eight-requires
+turn-eight-requires c κs = search needs
+
 returns : tie.Need-returns
 unfolding own
 returns c = rw (c .before .enum-told .given .1) (c .eight-at .ensures .0 Lsb0, c .eight-at .ensures .1)
 
 returns-2 : tie.Need-returns-2
 unfolding own
-returns-2 c = rw (c .before .enum-told2 .given .1) (c .eight-at2 .ensures .0 Msb0, c .eight-at2 .ensures .1)
+returns-2 c =
+    let a = c .before .before .before .before .before .args in
+    rw (c .before .before .enum-told2 .given .1) (big c, load-fits 8 (lit< tt) Msb0 Be (now (a .words)) (a .at * 8) 64 (big c) .1)
 
 pub chunk-at-spec : {M : Type 1} → statement M
 chunk-at-spec =
     tie.close
-    (tie.spec enum-told eight-at-requires enum-told-2 eight-at-requires-2 returns returns-2)
+    (tie.spec
+    enum-told
+    eight-at-requires
+    enum-told-2
+    eight-at-requires-2
+    turn-eight-requires
+    returns
+    returns-2)

@@ -6,16 +6,17 @@ use lib.Dec.{lit<}
 use denote.Ref.{now}
 use Rattle.rules.specs.declared.Order.{Order}
 use Rattle.rules.specs.declared.Order.the-variants.{Lsb0}
+use Rattle.rules.specs.declared.Significance.the-variants.{Le}
 use Rattle.rules.specs.Fields.{loadOf}
 use Rattle.rules.proofs.Cuts.{load-fits}
 use Rattle.rules.proofs.Pieces.{load-next}
 use Rattle.field8.proofs.chunks.eight_at.Statement.{statement}
 use Rattle.field8.proofs.chunks.eight_at.Tie as tie
 
-is : (c : tie.After-join) (o : Order) → (let a = c .before .before .before .before .args in c .join .result ≡ loadOf 8 o (a .significance) (now (a .words)) (a .at * 8) 64)
+is : (c : tie.After-join) (o : Order) → (let a = c .before .before .before .before .args in c .join .result ≡ loadOf 8 o Le (now (a .words)) (a .at * 8) 64)
 is c o =
     let a = c .before .before .before .before .args in
-    c .join .ensures ∙ load-next 8 (lit< tt) o (a .significance) (now (a .words)) (a .at) 4 32 (c .before .before .four-at .ensures .0 o) (c .before .four-at2 .ensures .0 o)
+    c .join .ensures ∙ load-next 8 (lit< tt) o Le (now (a .words)) (a .at) 4 32 (c .before .before .four-at .ensures .0 o) (c .before .four-at2 .ensures .0 o)
 
 four-at-requires : tie.Need-four-at-requires
 four-at-requires c κs = search needs
@@ -31,7 +32,7 @@ join-requires c κs = search needs
 
 returns : tie.Need-returns
 returns c = let a = c .before .before .before .before .args in
-    (is c, load-fits 8 (lit< tt) Lsb0 (a .significance) (now (a .words)) (a .at * 8) 64 (is c Lsb0) .1)
+    (is c, load-fits 8 (lit< tt) Lsb0 Le (now (a .words)) (a .at * 8) 64 (is c Lsb0) .1)
 
 pub eight-at-spec : {M : Type 1} → statement M
 eight-at-spec =

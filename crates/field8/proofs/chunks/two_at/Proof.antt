@@ -6,6 +6,7 @@ use lib.Dec.{lit<}
 use denote.Ref.{now}
 use Rattle.rules.specs.declared.Order.{Order}
 use Rattle.rules.specs.declared.Order.the-variants.{Lsb0}
+use Rattle.rules.specs.declared.Significance.the-variants.{Le}
 use Rattle.rules.specs.Fields.{loadOf}
 use Rattle.rules.proofs.Cuts.{load-fits}
 use Rattle.rules.proofs.Wholes.{load-word}
@@ -13,15 +14,14 @@ use Rattle.rules.proofs.Pieces.{load-next}
 use Rattle.field8.proofs.chunks.two_at.Statement.{statement}
 use Rattle.field8.proofs.chunks.two_at.Tie as tie
 
-is : (c : tie.After-join) (o : Order) → (let a = c .before .before .before .before .args in c .join .result ≡ loadOf 8 o (a .significance) (now (a .words)) (a .at * 8) 16)
+is : (c : tie.After-join) (o : Order) → (let a = c .before .before .before .before .args in c .join .result ≡ loadOf 8 o Le (now (a .words)) (a .at * 8) 16)
 is c o =
     let k = c .before .before .before in
     let a = k .before .args in
-    let g = a .significance in
     c .join .ensures
-    ∙ load-next 8 (lit< tt) o g (now (a .words)) (a .at) 1 8
-    (c .before .before .word-at .ensures .0 ∙ sym (load-word 8 (lit< tt) o g (now (a .words)) (λ i. k .shared-slice-known .given i .fits) (a .at)))
-    (c .before .word-at2 .ensures .0 ∙ sym (load-word 8 (lit< tt) o g (now (a .words)) (λ i. k .shared-slice-known .given i .fits) (a .at + 1)))
+    ∙ load-next 8 (lit< tt) o Le (now (a .words)) (a .at) 1 8
+    (c .before .before .word-at .ensures .0 ∙ sym (load-word 8 (lit< tt) o Le (now (a .words)) (λ i. k .shared-slice-known .given i .fits) (a .at)))
+    (c .before .word-at2 .ensures .0 ∙ sym (load-word 8 (lit< tt) o Le (now (a .words)) (λ i. k .shared-slice-known .given i .fits) (a .at + 1)))
 
 word-at-requires : tie.Need-word-at-requires
 word-at-requires c κs = search needs
@@ -37,7 +37,7 @@ join-requires c κs = search needs
 
 returns : tie.Need-returns
 returns c = let a = c .before .before .before .before .args in
-    (is c, load-fits 8 (lit< tt) Lsb0 (a .significance) (now (a .words)) (a .at * 8) 16 (is c Lsb0) .1)
+    (is c, load-fits 8 (lit< tt) Lsb0 Le (now (a .words)) (a .at * 8) 16 (is c Lsb0) .1)
 
 pub two-at-spec : {M : Type 1} → statement M
 two-at-spec =

@@ -1,7 +1,9 @@
 //! The same jobs in plain Rust, behind the same C signatures: first piece, whole
-//! words, last piece. As in plain C, nothing is checked and nothing refused.
+//! words, last piece. As in plain C, nothing is checked and nothing refused, but
+//! in `checked`.
 
 mod calls;
+pub mod checked;
 mod fields;
 mod rows;
 mod searches;

@@ -1,0 +1,58 @@
+/* Loads or stores 1,024 fields at odd heads through the exported calls, for callgrind to count.
+ *
+ *     fields JOB WIDTH ORDER K SIGNIFICANCE SIGN      JOB: load or store; the rest as the C interface has them
+ */
+#include <stdlib.h>
+#include <string.h>
+
+#include "stableply.h"
+
+enum { FIELDS = 1024, WORDS = 8192 };
+
+static uint64_t wide[WORDS];
+static uint8_t narrow[WORDS];
+static size_t word[FIELDS], head[FIELDS];
+
+static uint64_t state = 88172645463325252u;
+
+/* A random number below `bound`. */
+static size_t below(size_t bound) {
+    state ^= state << 13;
+    state ^= state >> 7;
+    state ^= state << 17;
+    return state % bound;
+}
+
+/* All fields loaded, and all stored, at one width: not 0 where one is refused. */
+#define LOOPS(width, words)                                                                                              \
+    static __attribute__((noinline)) unsigned loads##width(uint8_t order, size_t k, uint8_t significance, uint8_t sign) { \
+        unsigned refused = 0;                                                                                            \
+        uint64_t out;                                                                                                    \
+        for (size_t i = 0; i < FIELDS; i++)                                                                              \
+            refused |= stableply##width##_load(words, WORDS, order, word[i], head[i], k, k, significance, sign, &out);   \
+        return refused;                                                                                                  \
+    }                                                                                                                    \
+    static __attribute__((noinline)) unsigned stores##width(uint8_t order, size_t k, uint8_t significance, uint8_t sign) { \
+        unsigned refused = 0;                                                                                            \
+        for (size_t i = 0; i < FIELDS; i++)                                                                              \
+            refused |= stableply##width##_store(words, WORDS, order, word[i], head[i], k, k, significance, sign, 0, 0x5A); \
+        return refused;                                                                                                  \
+    }
+
+LOOPS(64, wide)
+LOOPS(8, narrow)
+
+int main(int count, char **given) {
+    if (count != 7)
+        return 2;
+    int load = strcmp(given[1], "load") == 0, width = atoi(given[2]);
+    uint8_t order = atoi(given[3]), significance = atoi(given[5]), sign = atoi(given[6]);
+    size_t k = atoi(given[4]);
+    for (size_t i = 0; i < FIELDS; i++) {
+        word[i] = below(WORDS - 10);
+        head[i] = 2 * below(width / 2) + 1;
+    }
+    if (width == 64)
+        return load ? loads64(order, k, significance, sign) : stores64(order, k, significance, sign);
+    return load ? loads8(order, k, significance, sign) : stores8(order, k, significance, sign);
+}
