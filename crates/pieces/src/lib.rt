@@ -112,8 +112,10 @@ pub fn with_piece(width: usize, x: u64, order: Order, h: usize, n: usize, v: u64
     ensures { λ r. ⌜ (r ≡ masked width x (lowest width order h n) n v) × (r < 2 ^ width) ⌝ }
 {
     let p = lowest_of(width, order, h, n);
-    let mask = rules::low_ones(n) << p;
-    x ^ (x ^ v << p) & mask
+    let low = rules::low_ones(n);
+    let mask = low << p;
+    let all = rules::low_ones(width);
+    (x & (all - mask)) | (v & low) << p
 }
 
 // The number whose first part is the k bits a, and whose rest is the n bits b.

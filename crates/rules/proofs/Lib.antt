@@ -27,7 +27,6 @@ pub mod Chunks
 -- words by their indexes, and whole rows
 pub mod MaskBits
 pub mod Merged
-pub mod Exchange
 pub mod Moves
 pub mod Filled
 pub mod RowPieces
