@@ -9,6 +9,7 @@ use std::{fs, path::Path, process::ExitCode};
 use line::Line;
 use measures::{measure, Effort, LONGEST};
 
+mod alike;
 mod contest;
 mod fields;
 mod line;
@@ -32,6 +33,7 @@ fn main() -> ExitCode {
             return ExitCode::from(2);
         }
     };
+    alike::check(1_000_000);
     let lines = best(effort);
     table::print(&lines);
     println!("\n{}", table::summary(&lines));
