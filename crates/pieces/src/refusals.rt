@@ -78,13 +78,7 @@ fn is_begun(lent: usize, word: usize, len: usize, k: usize) -> bool
     if k < len {
         return false;
     }
-    if k & 120 == 0 {
-        return false;
-    }
-    if k & (k - 1) != 0 {
-        return false;
-    }
-    true
+    rules::is_size(k)
 }
 
 // The same where a word holds the longest field, so that a field has one word or two: what is accepted is seen first, and in one word sooner.

@@ -1,24 +1,18 @@
 -- A field seen from its beginning, as code looks at it where a field is no longer than a word: K and the length are good and the first word is
 -- lent. Then it is accepted within that word, and across its end where one word more is lent. Assumes nothing.
 use Prim.Native.Nat.{ℕ, _+_, _*_, _≤_, _<_}
-use mathlib.Core.Path.{_≡_, refl, sym, ap, _∙_}
-use mathlib.Core.Bool.{true, false, not}
-use mathlib.Core.List.{List, [], _∷_, _++_}
+use mathlib.Core.Path.{_≡_, ap, _∙_}
+use mathlib.Core.Bool.{true, not}
 use native.Mathlib.Nat.{mul-le-mul, add-mul}
 use native.Mathlib.Decide.{decLt}
 use native.Mathlib.Omega.{arith}
 use borrow.Author.Tests.{le-leb, lt-leb}
-use lib.IntN.{ℤ}
-use Rattle.rules.specs.Types.{Span, Sign, Refusal, Verdict, Fine, Refused, IndexTooLarge, OutOfBounds, NotAnInteger}
+use Rattle.rules.specs.Types.{Span, Fine, Refused, IndexTooLarge, OutOfBounds}
 use Rattle.rules.specs.Positions.{inBounds}
-use Rattle.rules.specs.Fields.{isSize, isInteger}
-use Rattle.rules.specs.Refusals.{Case, verdict, _when_, spanCases, fieldCases, valueCases, loadCases, storeCases}
-use Rattle.rules.proofs.Tables.{andThen, verdict-append, stops, goes, refused-2, refused-3, none-refused, field-fine}
+use Rattle.rules.specs.Fields.{isSize}
+use Rattle.rules.specs.Refusals.{verdict, spanCases, fieldCases, loadCases}
+use Rattle.rules.proofs.Tables.{stops, goes, refused-2, refused-3, none-refused, field-fine}
 use Rattle.rules.proofs.Accepted.{Load, fine-load}
-
-then-then : (a b c : Verdict) → andThen a (andThen b c) ≡ andThen (andThen a b) c
-then-then Fine b c = refl
-then-then (Refused r) b c = refl
 
 pub record Begun (n word len K : ℕ) : Type 0 where
   pub few : n ≤ 65536
@@ -69,27 +63,3 @@ module _ (W n : ℕ) (s : Span) (K : ℕ) where
     pub end-refused : s .head .0 < W → W < s .head .0 + s .len → n ≤ s .word + 1 → verdict (loadCases W n s K) ≡ Refused OutOfBounds
     unfolding loadCases inBounds
     end-refused h l m = stops (spanCases W n s) (fieldCases K (s .len)) (refused-3 W n s (b .few) h (ap not (lt-leb (s .word * W + s .head .0 + s .len) (n * W) (omega (arith, mul-le-mul {n₁ = n} {m₁ = W} {n₂ = s .word + 1} {m₂ = W} m (omega arith), add-mul (s .word) 1 W)))))
-
-  -- a store's table is a load's, and then refusal 8
-  module _ (g : Sign) (v : ℤ) where
-    last : List Case
-    last = NotAnInteger when not (isInteger K g v) ∷ []
-
-    store-after : verdict (storeCases W n s K g v) ≡ andThen (verdict (loadCases W n s K)) (verdict last)
-    unfolding storeCases valueCases loadCases last
-    store-after =
-        verdict-append (spanCases W n s) (fieldCases K (s .len) ++ last)
-        ∙ ap (andThen (verdict (spanCases W n s))) (verdict-append (fieldCases K (s .len)) last)
-        ∙ then-then (verdict (spanCases W n s)) (verdict (fieldCases K (s .len))) (verdict last)
-        ∙ ap (λ (x : Verdict). andThen x (verdict last)) (sym (verdict-append (spanCases W n s) (fieldCases K (s .len))))
-
-    pub store-stops : {r : Refusal} → verdict (loadCases W n s K) ≡ Refused r → verdict (storeCases W n s K g v) ≡ Refused r
-    store-stops e = store-after ∙ ap (λ (x : Verdict). andThen x (verdict last)) e
-
-    pub store-refused-8 : verdict (loadCases W n s K) ≡ Fine → isInteger K g v ≡ false → verdict (storeCases W n s K g v) ≡ Refused NotAnInteger
-    unfolding verdict last
-    store-refused-8 e h = store-after ∙ rw (e, h)
-
-    pub store-fine : verdict (loadCases W n s K) ≡ Fine → isInteger K g v ≡ true → verdict (storeCases W n s K g v) ≡ Fine
-    unfolding verdict last
-    store-fine e h = store-after ∙ rw (e, h)

@@ -3,7 +3,7 @@
 use Prim.Native.Nat.{ℕ, suc, _+_, _-_, _*_, _/_, _%_, _^_, _≤_, _<_}
 use mathlib.Core.Path.{_≡_, sym, ap, _∙_}
 use mathlib.Core.Bool.{true, false≢true}
-use native.Mathlib.Nat.{div-eq-of-lt, div-lt-iff-lt-mul, le-div-iff-mul-le, mod-eq-of-lt}
+use native.Mathlib.Nat.{div-eq-of-lt, div-lt-iff-lt-mul, le-div-iff-mul-le}
 use native.Mathlib.Decide.{decLt}
 use native.Mathlib.Omega.{arith}
 use borrow.Author.Tests.{ltb-true, lt-ltb, le-ltb, le-leb, lt-leb, eq-eqb, ne-eqb}
@@ -65,15 +65,18 @@ shift-one n k h = go (decLt n (2 ^ k))
         lt-leb (n / 2 ^ (k - 1)) 1 (omega arith) ∙ sym (le-ltb n (2 ^ k) (omega arith))
 
 -- a K-bit integer n, or -1 - n, has n below 2 ^ K
+half-lt : (K n : ℕ) → ltb n (2 ^ (K - 1)) ≡ true → n < 2 ^ K
+half-lt K n e = omega (arith, ltb-true n (2 ^ (K - 1)) e, pow-mono {i = K - 1} {j = K} (omega arith))
+
 pub up-lt : (K : ℕ) (g : Sign) (n : ℕ) → isInteger K g (pos n) ≡ true → n < 2 ^ K
 unfolding isInteger
 up-lt K Unsigned n e = ltb-true n (2 ^ K) e
-up-lt K Signed n e = omega (arith, ltb-true n (2 ^ (K - 1)) e, pow-mono {i = K - 1} {j = K} (omega arith))
+up-lt K Signed n e = half-lt K n e
 
 pub down-lt : (K : ℕ) (g : Sign) (n : ℕ) → isInteger K g (negsuc n) ≡ true → n < 2 ^ K
 unfolding isInteger
 down-lt K Unsigned n e = absurd (false≢true e)
-down-lt K Signed n e = omega (arith, ltb-true n (2 ^ (K - 1)) e, pow-mono {i = K - 1} {j = K} (omega arith))
+down-lt K Signed n e = half-lt K n e
 
 -- the low k of 64 bits, each turned over, of a number below 2 ^ k
 pub turned-low : (k n : ℕ) → k ≤ 64 → n < 2 ^ k → (2 ^ 64 - 1 - n) % 2 ^ k ≡ 2 ^ k - 1 - n

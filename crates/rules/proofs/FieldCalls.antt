@@ -1,18 +1,18 @@
 -- The calls on fields: their tables joined from those of code, and their answers and memory from what code reads and writes. Assumes nothing.
 use mathlib.Core.Path.{_≡_, refl, sym, ap, _∙_}
-use mathlib.Core.Bool.{not}
-use mathlib.Core.List.{List, [], _∷_}
+use mathlib.Core.Bool.{true, false, not}
+use mathlib.Core.List.{List, [], _∷_, _++_}
 use Prim.Native.Nat.{ℕ, _+_, _*_, _%_, _^_, _≤_, _<_}
 use lib.ListN.{length}
 use lib.IntN.{ℤ}
-use Rattle.rules.specs.Types.{Span, Significance, Sign, Number, Refusal, Verdict, Fine, Refused, NumberAnswer, Number·Is, Number·Refused, WriteAnswer, Done, Write·Refused, DoesNotFit}
+use Rattle.rules.specs.Types.{Span, Significance, Sign, Number, Refusal, Verdict, Fine, Refused, NumberAnswer, Number·Is, Number·Refused, WriteAnswer, Done, Write·Refused, NotAnInteger, DoesNotFit}
 use Rattle.rules.specs.Positions.{start}
-use Rattle.rules.specs.Fields.{loadOf, storeOf, readAs, whole, bitsOf, fits}
-use Rattle.rules.specs.Refusals.{number, verdict, _when_, spanCases, fieldCases, valueCases, fittingCases, loadCases, storeCases, strictCases}
+use Rattle.rules.specs.Fields.{loadOf, storeOf, readAs, whole, bitsOf, isInteger, fits}
+use Rattle.rules.specs.Refusals.{Case, number, verdict, _when_, spanCases, fieldCases, valueCases, fittingCases, loadCases, storeCases, strictCases}
 use Rattle.rules.specs.Calls.{load, store, strictStore, cases, answer!, after!, answer, after, a-number}
 use Rattle.rules.specs.Answers.{numberSays, writeSays, Gives}
 use Rattle.rules.proofs.Field.{store-alike}
-use Rattle.rules.proofs.Tables.{stops, goes, fine-parts}
+use Rattle.rules.proofs.Tables.{andThen, verdict-append, stops, goes, fine-parts}
 use Rattle.rules.proofs.Sentences.{refused-call, accepted-call}
 
 -- ---- load
@@ -64,3 +64,32 @@ module _ (W : ℕ) (ws : List ℕ) (s : Span) (K : ℕ) (e : Significance) (g : 
       let c = accepted-call W (strictStore s K e g v) ws h in
       let d = accepted-call W (store s K e g v) ws (goes (spanCases W (length ws) s) (valueCases K (s .len) g v) (p .0) ∙ q .0) in
       (d .0 ∙ sym (c .0), d .1 ∙ sym (c .1))
+
+-- ---- a store's table is a load's, and then refusal 8
+
+then-then : (a b c : Verdict) → andThen a (andThen b c) ≡ andThen (andThen a b) c
+then-then Fine b c = refl
+then-then (Refused r) b c = refl
+
+module _ (W n : ℕ) (s : Span) (K : ℕ) (g : Sign) (v : ℤ) where
+  last : List Case
+  last = NotAnInteger when not (isInteger K g v) ∷ []
+
+  store-after : verdict (storeCases W n s K g v) ≡ andThen (verdict (loadCases W n s K)) (verdict last)
+  unfolding storeCases valueCases loadCases last
+  store-after =
+      verdict-append (spanCases W n s) (fieldCases K (s .len) ++ last)
+      ∙ ap (andThen (verdict (spanCases W n s))) (verdict-append (fieldCases K (s .len)) last)
+      ∙ then-then (verdict (spanCases W n s)) (verdict (fieldCases K (s .len))) (verdict last)
+      ∙ ap (λ (x : Verdict). andThen x (verdict last)) (sym (verdict-append (spanCases W n s) (fieldCases K (s .len))))
+
+  pub store-stops : {r : Refusal} → verdict (loadCases W n s K) ≡ Refused r → verdict (storeCases W n s K g v) ≡ Refused r
+  store-stops e = store-after ∙ ap (λ (x : Verdict). andThen x (verdict last)) e
+
+  pub store-refused-8 : verdict (loadCases W n s K) ≡ Fine → isInteger K g v ≡ false → verdict (storeCases W n s K g v) ≡ Refused NotAnInteger
+  unfolding verdict last
+  store-refused-8 e h = store-after ∙ rw (e, h)
+
+  pub store-fine : verdict (loadCases W n s K) ≡ Fine → isInteger K g v ≡ true → verdict (storeCases W n s K g v) ≡ Fine
+  unfolding verdict last
+  store-fine e h = store-after ∙ rw (e, h)

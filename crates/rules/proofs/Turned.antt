@@ -5,6 +5,7 @@ use Prim.Native.Nat.{ℕ, zero, suc, _+_, _-_, _*_, _/_, _%_, _^_, _≤_, _<_}
 use native.Mathlib.Nat.{add-zero, add-mul, mul-comm, mul-assoc, mul-one, pow-suc}
 use native.Mathlib.Omega.{arith}
 use lib.Arith.{digits-div, digits-mod}
+use lib.Bits.{bitAnd, and-mask}
 use lib.ListN.{getD}
 use Rattle.rules.specs.Types.{Order, Significance, Le, Be}
 use Rattle.rules.specs.Fields.{loadOf}
@@ -15,6 +16,12 @@ use Rattle.rules.proofs.Cuts.{joined, load-cut}
 unfoldable pub turned : ℕ → ℕ → ℕ → ℕ
 turned W zero x = x
 turned W (suc n) x = turned W n (x % 2 ^ (W * 2 ^ n)) * 2 ^ (W * 2 ^ n) + turned W n (x / 2 ^ (W * 2 ^ n))
+
+-- as code turns them: each half, the low one by a mask, and the halves joined
+pub turned-halves : (W n x : ℕ) {a b : ℕ} → a ≡ turned W n (bitAnd x (2 ^ (W * 2 ^ n) - 1)) → b ≡ turned W n (x / 2 ^ (W * 2 ^ n))
+    → joined Be a (W * 2 ^ n) b (W * 2 ^ n) ≡ turned W (suc n) x
+unfolding turned joined
+turned-halves W n x d e = ap₂ (λ (y z : ℕ). y * 2 ^ (W * 2 ^ n) + z) (d ∙ ap (turned W n) (and-mask x (W * 2 ^ n))) e
 
 module _ (W : ℕ) (pos : 0 < W) (o : Order) (ws : List ℕ) where
   -- one word has no significance to heed

@@ -7,6 +7,7 @@ mod value_calls;
 
 pub use order_calls::low_ones;
 pub use value_calls::check_field;
+pub use value_calls::is_size;
 
 // How many bits a word has.
 pub enum Width {

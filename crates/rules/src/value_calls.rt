@@ -17,7 +17,7 @@ ghost use Rattle.rules.specs.Calls.{lowBitsAnswer, fittingAnswer, readAn
 ghost use Rattle.rules.specs.Answers.{numberSays, lowBitsSays, machineSays};
 
 // Whether K is one of the four: a power of two, and one of the bits 8, 16, 32 and 64.
-fn is_size(k: usize) -> bool
+pub fn is_size(k: usize) -> bool
     ensures { λ r. ⌜ r ≡ isSize k ⌝ }
 {
     if k & 120 == 0 {

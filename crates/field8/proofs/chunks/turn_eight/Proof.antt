@@ -1,18 +1,13 @@
 -- `turn_eight`: each half turned, the low one above the high one. Assumes nothing.
 use borrow.Author.Needs.{needs}
-use mathlib.Core.Path.{_≡_, _∙_, ap, ap₂}
-use Prim.Native.Nat.{ℕ, _+_, _*_, _^_}
-use lib.Bits.{and-mask, mask-lt}
-use Rattle.rules.proofs.Cuts.{joined}
-use Rattle.rules.proofs.Turned.{turned}
+use mathlib.Core.Path.{_≡_, _∙_}
+use lib.Bits.{mask-lt}
+use Rattle.rules.proofs.Turned.{turned, turned-halves}
 use Rattle.field8.proofs.chunks.turn_eight.Statement.{statement}
 use Rattle.field8.proofs.chunks.turn_eight.Tie as tie
 
 is : (c : tie.After-join) → c .join .result ≡ turned 8 3 (c .before .before .before .args .x)
-unfolding joined turned
-is c =
-    let x = c .before .before .before .args .x in
-    c .join .ensures ∙ ap₂ (λ (a b : ℕ). a * 2 ^ 32 + b) (c .before .before .turn-four .ensures .0 ∙ ap (turned 8 2) (and-mask x 32)) (c .before .turn-four2 .ensures .0)
+is c = c .join .ensures ∙ turned-halves 8 2 (c .before .before .before .args .x) (c .before .before .turn-four .ensures .0) (c .before .turn-four2 .ensures .0)
 
 turn-four-requires : tie.Need-turn-four-requires
 turn-four-requires c κs = mask-lt (c .args .x) 32

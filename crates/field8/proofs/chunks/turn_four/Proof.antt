@@ -1,19 +1,15 @@
 -- `turn_four`: each half turned, the low one above the high one. Assumes nothing.
 use borrow.Author.Needs.{needs}
-use mathlib.Core.Path.{_≡_, _∙_, ap, ap₂}
-use Prim.Native.Nat.{ℕ, _+_, _*_, _^_}
+use mathlib.Core.Path.{_≡_, _∙_}
 use native.Mathlib.Omega.{arith}
-use lib.Bits.{and-mask, mask-lt}
+use lib.Bits.{mask-lt}
 use Rattle.rules.proofs.Cuts.{joined}
-use Rattle.rules.proofs.Turned.{turned}
+use Rattle.rules.proofs.Turned.{turned, turned-halves}
 use Rattle.field8.proofs.chunks.turn_four.Statement.{statement}
 use Rattle.field8.proofs.chunks.turn_four.Tie as tie
 
 is : (c : tie.After-join) → c .join .result ≡ turned 8 2 (c .before .before .before .args .x)
-unfolding joined turned
-is c =
-    let x = c .before .before .before .args .x in
-    c .join .ensures ∙ ap₂ (λ (a b : ℕ). a * 2 ^ 16 + b) (c .before .before .turn-two .ensures .0 ∙ ap (turned 8 1) (and-mask x 16)) (c .before .turn-two2 .ensures .0)
+is c = c .join .ensures ∙ turned-halves 8 1 (c .before .before .before .args .x) (c .before .before .turn-two .ensures .0) (c .before .turn-two2 .ensures .0)
 
 turn-two-requires : tie.Need-turn-two-requires
 turn-two-requires c κs = mask-lt (c .args .x) 16

@@ -1,10 +1,9 @@
 -- `turn_two`: the low byte above the high one. Assumes nothing.
-use mathlib.Core.Path.{_∙_, ap}
-use Prim.Native.Nat.{ℕ, _+_, _*_, _/_, _^_}
+use mathlib.Core.Path.{refl, _∙_}
 use native.Mathlib.Omega.{arith}
-use lib.Bits.{and-mask, mask-lt}
+use lib.Bits.{mask-lt}
 use Rattle.rules.proofs.Cuts.{joined}
-use Rattle.rules.proofs.Turned.{turned}
+use Rattle.rules.proofs.Turned.{turned, turned-halves}
 use Rattle.field8.proofs.chunks.turn_two.Statement.{statement}
 use Rattle.field8.proofs.chunks.turn_two.Tie as tie
 
@@ -16,7 +15,7 @@ unfolding joined turned
 returns c =
     let x = c .before .args .x in
     let e = c .join .ensures in
-    (e ∙ ap (λ (a : ℕ). a * 2 ^ 8 + x / 2 ^ 8) (and-mask x 8), omega (arith, e, mask-lt x 8))
+    (e ∙ turned-halves 8 0 x refl refl, omega (arith, e, mask-lt x 8))
 
 pub turn-two-spec : {M : Type 1} → statement M
 turn-two-spec = tie.close (tie.spec join-requires returns)

@@ -6,7 +6,7 @@ use Rattle.rules.specs.declared.Verdict.the-variants.{Fine}
 use Rattle.rules.specs.Bits.{bits}
 use Rattle.rules.specs.Refusals.{verdict, loadCases}
 use Rattle.rules.proofs.Accepted.{fine-load}
-use Rattle.rules.proofs.Begun.{store-stops, store-refused-8, store-fine}
+use Rattle.rules.proofs.FieldCalls.{store-stops, store-refused-8, store-fine}
 use Rattle.pieces.proofs.refusals.check_store.Statement.{statement}
 use Rattle.pieces.proofs.refusals.check_store.Tie as tie
 

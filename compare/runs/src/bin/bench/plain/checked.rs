@@ -35,95 +35,101 @@ fn is_cut_off(lent: usize, word: usize, head: usize) -> bool {
     head > 63 || word + 1 >= lent
 }
 
-/// A load, with the signature of the exported one.
-#[inline(never)]
-pub unsafe extern "C" fn load(
-    words: *const u64,
-    lent: usize,
-    order: u8,
-    word: usize,
-    head: usize,
-    length: usize,
-    k: usize,
-    significance: u8,
-    sign: u8,
-    out: *mut u64,
-) -> u8 {
-    let codes = order | significance | sign;
-    if !is_begun(lent, word, length, k, codes) {
-        return reason(lent, word, head, length, k, codes);
+/// A call on a field with the signature of the exported ones: how the words are lent, what follows in the signature, and
+/// what is done with all arguments.
+macro_rules! field_call {
+    (
+        $(#[$about:meta])*
+        $name:ident, $pointer:ty, ($($more:ident: $kind:ty),*),
+        |$words:ident, $lent:ident, $order:ident, $word:ident, $head:ident, $length:ident, $k:ident, $significance:ident, $sign:ident| $body:block
+    ) => {
+        $(#[$about])*
+        #[inline(never)]
+        pub unsafe extern "C" fn $name(
+            $words: $pointer,
+            $lent: usize,
+            $order: u8,
+            $word: usize,
+            $head: usize,
+            $length: usize,
+            $k: usize,
+            $significance: u8,
+            $sign: u8,
+            $($more: $kind),*
+        ) -> u8 $body
+    };
+}
+
+field_call! {
+    /// A load, with the signature of the exported one.
+    load, *const u64, (out: *mut u64),
+    |words, lent, order, word, head, length, k, significance, sign| {
+        let codes = order | significance | sign;
+        if !is_begun(lent, word, length, k, codes) {
+            return reason(lent, word, head, length, k, codes);
+        }
+        let rest = 64 - length;
+        let number = if head <= rest {
+            *words.add(word) << if order == 0 { rest - head } else { head } >> rest
+        } else {
+            if is_cut_off(lent, word, head) {
+                return reason(lent, word, head, length, k, codes);
+            }
+            let (first, next) = (*words.add(word), *words.add(word + 1));
+            let (room, over) = (64 - head, head - rest);
+            let (a, b) = match order {
+                0 => (first >> head, next << (64 - over) >> (64 - over)),
+                _ => (first << head >> head, next >> (64 - over)),
+            };
+            match significance {
+                0 => b << room | a,
+                _ => a << over | b,
+            }
+        };
+        *out = match sign {
+            0 => number,
+            _ => ((number << rest) as i64 >> rest) as u64,
+        };
+        0
     }
-    let rest = 64 - length;
-    let number = if head <= rest {
-        *words.add(word) << if order == 0 { rest - head } else { head } >> rest
-    } else {
+}
+
+field_call! {
+    /// A store, with the signature of the exported one.
+    store, *mut u64, (below: u8, value: u64),
+    |words, lent, order, word, head, length, k, significance, sign| {
+        let codes = order | significance | sign | below;
+        if !is_begun(lent, word, length, k, codes) {
+            return reason(lent, word, head, length, k, codes);
+        }
+        let left = value >> (k - 1);
+        if if sign == 0 { below == 1 || left > 1 } else { left > 0 } {
+            return reason(lent, word, head, length, k, codes);
+        }
+        let number = if below == 0 { value } else { !value };
+        let rest = 64 - length;
+        if head <= rest {
+            let by = if order == 0 { head } else { rest - head };
+            let (place, mask) = (words.add(word), u64::MAX >> rest << by);
+            *place ^= (*place ^ number << by) & mask;
+            return 0;
+        }
         if is_cut_off(lent, word, head) {
             return reason(lent, word, head, length, k, codes);
         }
-        let (first, next) = (*words.add(word), *words.add(word + 1));
+        let (first, next) = (words.add(word), words.add(word + 1));
         let (room, over) = (64 - head, head - rest);
-        let (a, b) = match order {
-            0 => (first >> head, next << (64 - over) >> (64 - over)),
-            _ => (first << head >> head, next >> (64 - over)),
+        let (a, b) = match significance {
+            0 => (number, number >> room),
+            _ => (number >> over, number),
         };
-        match significance {
-            0 => b << room | a,
-            _ => a << over | b,
+        if order == 0 {
+            *first ^= (*first ^ a << head) & u64::MAX << head;
+            *next ^= (*next ^ b) & u64::MAX >> (64 - over);
+        } else {
+            *first ^= (*first ^ a) & u64::MAX >> head;
+            *next ^= (*next ^ b << (64 - over)) & u64::MAX << (64 - over);
         }
-    };
-    *out = match sign {
-        0 => number,
-        _ => ((number << rest) as i64 >> rest) as u64,
-    };
-    0
-}
-
-/// A store, with the signature of the exported one.
-#[inline(never)]
-pub unsafe extern "C" fn store(
-    words: *mut u64,
-    lent: usize,
-    order: u8,
-    word: usize,
-    head: usize,
-    length: usize,
-    k: usize,
-    significance: u8,
-    sign: u8,
-    below: u8,
-    value: u64,
-) -> u8 {
-    let codes = order | significance | sign | below;
-    if !is_begun(lent, word, length, k, codes) {
-        return reason(lent, word, head, length, k, codes);
+        0
     }
-    let left = value >> (k - 1);
-    if if sign == 0 { below == 1 || left > 1 } else { left > 0 } {
-        return reason(lent, word, head, length, k, codes);
-    }
-    let number = if below == 0 { value } else { !value };
-    let rest = 64 - length;
-    if head <= rest {
-        let by = if order == 0 { head } else { rest - head };
-        let (place, mask) = (words.add(word), u64::MAX >> rest << by);
-        *place ^= (*place ^ number << by) & mask;
-        return 0;
-    }
-    if is_cut_off(lent, word, head) {
-        return reason(lent, word, head, length, k, codes);
-    }
-    let (first, next) = (words.add(word), words.add(word + 1));
-    let (room, over) = (64 - head, head - rest);
-    let (a, b) = match significance {
-        0 => (number, number >> room),
-        _ => (number >> over, number),
-    };
-    if order == 0 {
-        *first ^= (*first ^ a << head) & u64::MAX << head;
-        *next ^= (*next ^ b) & u64::MAX >> (64 - over);
-    } else {
-        *first ^= (*first ^ a) & u64::MAX >> head;
-        *next ^= (*next ^ b << (64 - over)) & u64::MAX << (64 - over);
-    }
-    0
 }
