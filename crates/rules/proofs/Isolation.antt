@@ -8,54 +8,72 @@ use Rattle.rules.specs.Types.{Verdict, Fine, Refused}
 use Rattle.rules.specs.Bits.{bitAt}
 use Rattle.rules.specs.Refusals.{verdict}
 use Rattle.rules.specs.Calls.{Call, Answer, cases, answer, after, reads!, writes!, reads, writes, unless}
-use Rattle.rules.proofs.Parties.{Party, one, two, Of, of, hers, All, agree, answers, final, mixed-answers, mixed-final, Keeps, Apart, alone, unowned, first-answer, second-answer, swapped-bit}
+use Rattle.rules.specs.Mixtures.{Party, Of, of, hers, All, answers, final, mixed-answers, mixed-final, Asked, call, no-call, told, left, Separate, Within, Isolated}
+use Rattle.rules.proofs.Parties.{Rules, Keeps, Apart, agree, alone, unowned, first-answer, second-answer, swapped-bit}
 use Rattle.rules.proofs.Row.{Words, buffers-ext}
 use Rattle.rules.proofs.Footprints.{rules, words-after, length-after}
 
--- an accepted call reads and writes only positions that its caller owns
-abbrev pub Within : ℕ → ℕ → (Party → ℕ → Type 0) → Party → Call → Type 0
-Within W n Own p c = verdict (cases W n c) ≡ Fine → (q : ℕ) → (reads! W c q || writes! W c q) ≡ true → Own p q
-
--- each party's answers and final bits are those of its own calls alone, and unowned bits stay
-pub record Isolated (W : ℕ) (ws : List ℕ) (Own : Party → ℕ → Type 0) (t : List (Of Call)) : Type 0 where
-  pub same-answers : (p : Party) → hers p (mixed-answers (answer W) (after W) t ws) ≡ answers (answer W) (after W) (hers p t) ws
-  pub same-bits : (p : Party) (q : ℕ) → Own p q → bitAt W (mixed-final (answer W) (after W) t ws) q ≡ bitAt W (final (answer W) (after W) (hers p t) ws) q
-  pub others-stay : (q : ℕ) → ((p : Party) → Own p q → ⊥) → bitAt W (mixed-final (answer W) (after W) t ws) q ≡ bitAt W ws q
-
 module _ (W : ℕ) (wide : 0 < W) where
-  abbrev Kept : ℕ → (ℕ → Type 0) → Call → Type 0
-  Kept n = Keeps (reads W n) (writes W n)
-
   gate : (k : Verdict) {b : Bool} → unless k b false ≡ true → (k ≡ Fine) × (b ≡ true)
   gate Fine e = (refl, e)
   gate (Refused r) e = absurd (true≢false (sym e))
 
-  kept : (n : ℕ) (Own : Party → ℕ → Type 0) (p : Party) (c : Call) → Within W n Own p c → Kept n (Own p) c
-  unfolding reads writes
-  kept n Own p c h = record {
-    read = λ q e. let g = gate (verdict (cases W n c)) e in h (g .0) q (ap (λ x. x || writes! W c q) (g .1));
-    written = λ q e. let g = gate (verdict (cases W n c)) e in h (g .0) q (ap (λ x. reads! W c q || x) (g .1) ∙ or-true (reads! W c q));
-  }
+  -- what is asked reads and writes what its call does, or nothing
+  abbrev readsOf : ℕ → Asked → ℕ → Bool
+  readsOf n (call c) q = reads W n c q
+  readsOf n no-call q = false
 
-  all-kept : (n : ℕ) (Own : Party → ℕ → Type 0) (t : List (Of Call)) → All (Within W n Own) t → All (λ p c. Kept n (Own p) c) t
-  all-kept n Own [] h = tt
-  all-kept n Own (of p c ∷ t) h = (kept n Own p c (h .0), all-kept n Own t (h .1))
+  abbrev writesOf : ℕ → Asked → ℕ → Bool
+  writesOf n (call c) q = writes W n c q
+  writesOf n no-call q = false
+
+  module _ (n : ℕ) where
+    lent : (a : Asked) (ws : List ℕ) → length ws ≡ n → length (left W a ws) ≡ n
+    lent (call c) ws l = rules W wide n .lent-after c ws l
+    lent no-call ws l = l
+
+    framed : (a : Asked) (ws : List ℕ) → length ws ≡ n → (q : ℕ) → writesOf n a q ≡ false → bitAt W (left W a ws) q ≡ bitAt W ws q
+    framed (call c) ws l q e = rules W wide n .frame c ws l q e
+    framed no-call ws l q e = refl
+
+    same-told : (a : Asked) (ws vs : List ℕ) → length ws ≡ n → length vs ≡ n → ((q : ℕ) → readsOf n a q ≡ true → bitAt W ws q ≡ bitAt W vs q) → told W a ws ≡ told W a vs
+    same-told (call c) ws vs l k e = rules W wide n .local-answer c ws vs l k e
+    same-told no-call ws vs l k e = refl
+
+    same-left : (a : Asked) (ws vs : List ℕ) → length ws ≡ n → length vs ≡ n → ((q : ℕ) → readsOf n a q ≡ true → bitAt W ws q ≡ bitAt W vs q)
+        → (q : ℕ) → writesOf n a q ≡ true → bitAt W (left W a ws) q ≡ bitAt W (left W a vs) q
+    same-left (call c) ws vs l k e q w = rules W wide n .local-bit c ws vs l k e q w
+    same-left no-call ws vs l k e q w = absurd (true≢false (sym w))
+
+    asked-rules : Rules (λ ws. length ws ≡ n) (bitAt W) (told W) (left W) (readsOf n) (writesOf n)
+    asked-rules = record { lent-after = lent; frame = framed; local-answer = same-told; local-bit = same-left }
+
+    kept : (Own : Party → ℕ → Type 0) (p : Party) (a : Asked) → Within W n Own p a → Keeps (readsOf n) (writesOf n) (Own p) a
+    unfolding reads writes
+    kept Own p (call c) h = record {
+      read = λ q e. let g = gate (verdict (cases W n c)) e in h (g .0) q (ap (λ x. x || writes! W c q) (g .1));
+      written = λ q e. let g = gate (verdict (cases W n c)) e in h (g .0) q (ap (λ x. reads! W c q || x) (g .1) ∙ or-true (reads! W c q));
+    }
+    kept Own p no-call h = record { read = λ q e. absurd (true≢false (sym e)); written = λ q e. absurd (true≢false (sym e)) }
+
+    all-kept : (Own : Party → ℕ → Type 0) (t : List (Of Asked)) → All (Within W n Own) t → All (λ p a. Keeps (readsOf n) (writesOf n) (Own p) a) t
+    all-kept Own [] h = tt
+    all-kept Own (of p a ∷ t) h = (kept Own p a (h .0), all-kept Own t (h .1))
 
   -- DEMAND 3
-  pub isolation : (ws : List ℕ) (Own : Party → ℕ → Type 0) → ((q : ℕ) → Own one q → Own two q → ⊥)
-      → (t : List (Of Call)) → All (Within W (length ws) Own) t → Isolated W ws Own t
+  pub isolation : (ws : List ℕ) (Own : Party → ℕ → Type 0) → Separate Own → (t : List (Of Asked)) → All (Within W (length ws) Own) t → Isolated W ws Own t
   isolation ws Own separate t h = record {
-    same-answers = λ p. alone (rules W wide (length ws)) Own separate p t (all-kept (length ws) Own t h) ws refl .0;
-    same-bits = λ p. alone (rules W wide (length ws)) Own separate p t (all-kept (length ws) Own t h) ws refl .1;
-    others-stay = unowned (rules W wide (length ws)) Own separate t (all-kept (length ws) Own t h) ws refl;
+    same-answers = λ p. alone (asked-rules (length ws)) Own separate p t (all-kept (length ws) Own t h) ws refl .0;
+    same-bits = λ p. alone (asked-rules (length ws)) Own separate p t (all-kept (length ws) Own t h) ws refl .1;
+    others-stay = unowned (asked-rules (length ws)) Own separate t (all-kept (length ws) Own t h) ws refl;
   }
 
   -- The same from two buffers that agree where the party owns: nothing of the other's bits, or of unowned ones, reaches it.
-  pub isolation-from : (ws vs : List ℕ) → length ws ≡ length vs → (Own : Party → ℕ → Type 0) → ((q : ℕ) → Own one q → Own two q → ⊥)
-      → (t : List (Of Call)) → All (Within W (length ws) Own) t → (p : Party) → ((q : ℕ) → Own p q → bitAt W ws q ≡ bitAt W vs q)
-      → (hers p (mixed-answers (answer W) (after W) t ws) ≡ answers (answer W) (after W) (hers p t) vs)
-      × ((q : ℕ) → Own p q → bitAt W (mixed-final (answer W) (after W) t ws) q ≡ bitAt W (final (answer W) (after W) (hers p t) vs) q)
-  isolation-from ws vs l Own separate t h p same = agree (rules W wide (length ws)) Own separate p t (all-kept (length ws) Own t h) ws vs refl (sym l) same
+  pub isolation-from : (ws vs : List ℕ) → length ws ≡ length vs → (Own : Party → ℕ → Type 0) → Separate Own
+      → (t : List (Of Asked)) → All (Within W (length ws) Own) t → (p : Party) → ((q : ℕ) → Own p q → bitAt W ws q ≡ bitAt W vs q)
+      → (hers p (mixed-answers (told W) (left W) t ws) ≡ answers (told W) (left W) (hers p t) vs)
+      × ((q : ℕ) → Own p q → bitAt W (mixed-final (told W) (left W) t ws) q ≡ bitAt W (final (told W) (left W) (hers p t) vs) q)
+  isolation-from ws vs l Own separate t h p same = agree (asked-rules (length ws)) Own separate p t (all-kept (length ws) Own t h) ws vs refl (sym l) same
 
   -- P14: neither call writes a position that the other reads or writes (a refused call reads and writes none)
   abbrev pub FreeOf : ℕ → Call → Call → Type 0

@@ -13,10 +13,10 @@ use Rattle.rules.specs.Fields.{exponent, weigh, loadOf, readAs, bitsOf, 
 use Rattle.rules.specs.Rows.{moved, copiedInside, applied, rightBit, combined, sameBits, sameSpans, firstWith}
 use Rattle.rules.specs.Refusals.{verdict, spanCases, fieldCases, valueCases, fittingCases, bitCases, loadCases, storeCases, strictCases, pairCases, insideCases}
 use Rattle.rules.specs.Calls.{refused, done, a-number, says-yes, found-at, here, Call, readBit, load, store, strictStore, copyInside, combine, equal, findFirst, spanCovers, cases, answer!, after!, reads!, writes!, answer, after}
+use Rattle.rules.specs.Mixtures.{Party, one, two, Of, of, All, mixed-answers, mixed-final, Asked, call, told, left, Separate, Within, Isolated}
 use Rattle.rules.specs.Samples.{at-head}
-use Rattle.rules.proofs.Parties.{Party, one, two, Of, of, mixed-answers, mixed-final, All}
 use Rattle.rules.proofs.Spans.{within-low, within-high, covers-part}
-use Rattle.rules.proofs.Isolation.{Within, Isolated, isolation}
+use Rattle.rules.proofs.Isolation.{isolation}
 
 -- The first has positions 0 to 3 and works in Lsb0, the second positions 4 to 7 and works in Msb0.
 abbrev low : Span
@@ -29,7 +29,7 @@ abbrev pub Shares : Party → ℕ → Type 0
 Shares one q = spanCovers 8 (at-head Lsb0 0 4) q ≡ true
 Shares two q = spanCovers 8 (at-head Msb0 0 4) q ≡ true
 
-apart : (q : ℕ) → Shares one q → Shares two q → ⊥
+apart : Separate Shares
 unfolding covers mirror position start
 apart q a b =
     let x = within-high (0 * 8 + 0) 4 (q / 8 * 8 + q % 8) a in
@@ -38,20 +38,20 @@ apart q a b =
     omega arith
 
 -- a mixture in which two calls are refused, one by 9 and one by 2
-abbrev pub mixture : List (Of Call)
+abbrev pub mixture : List (Of Asked)
 mixture =
-    of one (store low 8 Le Unsigned (pos 9)) ∷ of two (findFirst 0 high) ∷ of two (copyInside high 0 2 1) ∷ of one (strictStore low 8 Le Unsigned (pos 16))
-    ∷ of two (load high 8 Be Unsigned) ∷ of one (load low 8 Le Unsigned) ∷ of two (readBit (at-head Msb0 8 1) 0) ∷ of two (equal here high here high)
-    ∷ of one (combine 6 low (0xF ∷ []) low) ∷ []
+    of one (call (store low 8 Le Unsigned (pos 9))) ∷ of two (call (findFirst 0 high)) ∷ of two (call (copyInside high 0 2 1)) ∷ of one (call (strictStore low 8 Le Unsigned (pos 16)))
+    ∷ of two (call (load high 8 Be Unsigned)) ∷ of one (call (load low 8 Le Unsigned)) ∷ of two (call (readBit (at-head Msb0 8 1) 0)) ∷ of two (call (equal here high here high))
+    ∷ of one (call (combine 6 low (0xF ∷ []) low)) ∷ []
 
 pub mixture-answers :
-    mixed-answers (answer 8) (after 8) mixture (0xB4 ∷ [])
+    mixed-answers (told 8) (left 8) mixture (0xB4 ∷ [])
     ≡ of one done ∷ of two (found-at 1) ∷ of two done ∷ of one (refused 9) ∷ of two (a-number (pos 13)) ∷ of one (a-number (pos 9)) ∷ of two (refused 2)
     ∷ of two says-yes ∷ of one done ∷ []
 unfolding mixed-answers bitN ofBits tabulate bitAt fromBits position mirror row fromRow start spanBit inBounds within over spliced exponent weigh loadOf readAs bitsOf storeOf isSize isInteger fits moved copiedInside applied rightBit combined sameBits sameSpans firstWith verdict spanCases fieldCases valueCases fittingCases bitCases loadCases storeCases strictCases pairCases insideCases cases answer! after! answer after
 mixture-answers = refl
 
-pub mixture-final : mixed-final (answer 8) (after 8) mixture (0xB4 ∷ []) ≡ 0xD6 ∷ []
+pub mixture-final : mixed-final (told 8) (left 8) mixture (0xB4 ∷ []) ≡ 0xD6 ∷ []
 unfolding mixed-final bitN ofBits tabulate bitAt fromBits position mirror row fromRow start spanBit inBounds within over spliced exponent weigh loadOf readAs bitsOf storeOf isSize isInteger fits moved copiedInside applied rightBit combined sameBits sameSpans firstWith verdict spanCases fieldCases valueCases fittingCases bitCases loadCases storeCases strictCases pairCases insideCases cases answer! after! answer after
 mixture-final = refl
 

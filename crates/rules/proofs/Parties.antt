@@ -1,49 +1,10 @@
 -- Isolation of two parties in one memory, and free order of calls, for any calls that read and write known positions. Nothing here is
--- about words: `Local` shows that document 01's one-buffer calls obey the `Rules` below. Assumes nothing.
+-- about words: `Footprints` shows that document 01's one-buffer calls obey the `Rules` below. Assumes nothing.
 use Prim.Native.Nat.{ℕ}
 use mathlib.Core.Path.{_≡_, refl, sym, _∙_, ap₂}
 use mathlib.Core.Bool.{Bool, true, false, false≢true}
 use mathlib.Core.List.{List, [], _∷_}
-
-pub data Party : Type 0 where
-  one two : Party
-
--- something of a party's: its call in a mixture, its answer
-pub data Of (A : Type 0) : Type 0 where
-  of : Party → A → Of A
-
--- the things of one party, in their order
-unfoldable pub hers : {A : Type 0} → Party → List (Of A) → List A
-hers one [] = []
-hers one (of one a ∷ t) = a ∷ hers one t
-hers one (of two a ∷ t) = hers one t
-hers two [] = []
-hers two (of one a ∷ t) = hers two t
-hers two (of two a ∷ t) = a ∷ hers two t
-
-module _ {Call Answer Memory : Type 0} (answer : Call → Memory → Answer) (after : Call → Memory → Memory) where
-  -- calls one after the other: what they answer, and the memory after them
-  unfoldable pub answers : List Call → Memory → List Answer
-  answers [] m = []
-  answers (c ∷ t) m = answer c m ∷ answers t (after c m)
-
-  unfoldable pub final : List Call → Memory → Memory
-  final [] m = m
-  final (c ∷ t) m = final t (after c m)
-
-  -- the same for a mixture of the two parties' calls, each answer marked with the party that gets it
-  unfoldable pub mixed-answers : List (Of Call) → Memory → List (Of Answer)
-  mixed-answers [] m = []
-  mixed-answers (of p c ∷ t) m = of p (answer c m) ∷ mixed-answers t (after c m)
-
-  unfoldable pub mixed-final : List (Of Call) → Memory → Memory
-  mixed-final [] m = m
-  mixed-final (of p c ∷ t) m = mixed-final t (after c m)
-
--- Every thing of a mixture has a property, which may name its party.
-abbrev pub All : {A : Type 0} → (Party → A → Type 0) → List (Of A) → Type 0
-All P [] = Unit {0}
-All P (of p a ∷ t) = P p a × All P t
+use Rattle.rules.specs.Mixtures.{Party, one, two, Of, of, hers, All, Separate, answers, final, mixed-answers, mixed-final}
 
 module _ {Call : Type 0} (reads writes : Call → ℕ → Bool) where
   -- a call reads and writes only positions of its caller
@@ -89,7 +50,7 @@ module _ {Call Answer Memory : Type 0} {Lent : Memory → Type 0} {bit : Memory 
       → Agree Own (after c m) n
   other-step apart c k m n lm a q o = either (writes c q) (λ w. absurd (apart q o (k .written q w))) (λ w. 𝓡 .frame c m lm q w ∙ a q o)
 
-  module _ (Own : Party → ℕ → Type 0) (separate : (q : ℕ) → Own one q → Own two q → ⊥) where
+  module _ (Own : Party → ℕ → Type 0) (separate : Separate Own) where
     abbrev pub AllKeep : List (Of Call) → Type 0
     AllKeep t = All (λ p c. Kept (Own p) c) t
 

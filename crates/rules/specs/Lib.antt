@@ -7,4 +7,5 @@ pub mod Rows
 pub mod Refusals
 pub mod Calls
 pub mod Answers
+pub mod Mixtures
 pub mod Samples
