@@ -7,7 +7,8 @@ use rules::Width;
 ghost use mathlib.Core.Path.{_≡_};
 ghost use mathlib.Core.Bool.{not};
 ghost use Rattle.rules.specs.Bits.{bits};
-ghost use Rattle.rules.specs.Refusals.{verdict, sameOrder, pairCases, copyCases, insideCases};
+ghost use Rattle.rules.specs.Refusals.{sameOrder, pairCases, copyCases, insideCases};
+ghost use Rattle.rules.specs.Answers.{Judges};
 
 // Whether two orders differ.
 pub fn orders_differ(left: Order, right: Order) -> bool
@@ -27,7 +28,7 @@ pub fn orders_differ(left: Order, right: Order) -> bool
 
 // Boolean and equal: 1 to 3 of the left span, 1 to 3 of the right one, 6.
 pub fn check_pair(width: Width, lent: usize, left: Span, right_lent: usize, right: Span) -> Verdict
-    ensures { λ r. ⌜ r ≡ verdict (pairCases (bits width) lent left «right_lent» right) ⌝ }
+    ensures { λ r. ⌜ Judges (pairCases (bits width) lent left «right_lent» right) r ⌝ }
 {
     let one = left.check(width, lent);
     match one {
@@ -52,7 +53,7 @@ pub fn check_pair(width: Width, lent: usize, left: Span, right_lent: usize, righ
 
 // Copy between and swap: the same, then 7.
 pub fn check_copy(width: Width, lent: usize, left: Span, right_lent: usize, right: Span) -> Verdict
-    ensures { λ r. ⌜ r ≡ verdict (copyCases (bits width) lent left «right_lent» right) ⌝ }
+    ensures { λ r. ⌜ Judges (copyCases (bits width) lent left «right_lent» right) r ⌝ }
 {
     let pair = check_pair(width, lent, left, right_lent, right);
     match pair {
@@ -76,7 +77,7 @@ pub fn check_move(
     count: usize,
     to: usize,
 ) -> Verdict
-    ensures { λ r. ⌜ r ≡ verdict (insideCases (bits width) lent span from count to) ⌝ }
+    ensures { λ r. ⌜ Judges (insideCases (bits width) lent span from count to) r ⌝ }
 {
     let one = span.check(width, lent);
     match one {

@@ -12,12 +12,13 @@ ghost use Rattle.rules.specs.declared.Verdict.the-variants.{Fine, Refused};
 ghost use Rattle.rules.specs.Bits.{bits};
 ghost use Rattle.rules.specs.Fields.{whole};
 ghost use Rattle.rules.specs.Refusals.{verdict, bitCases, loadCases, storeCases, strictCases};
+ghost use Rattle.rules.specs.Answers.{Judges};
 ghost use Rattle.rules.proofs.Begun.{Begun};
 ghost use Rattle.rules.proofs.Chunks.{chunk};
 
 // Single bit: 1 to 3, and 10 where the index is not below the span's length.
 pub fn check_bit(width: Width, lent: usize, span: Span, index: usize) -> Verdict
-    ensures { λ r. ⌜ r ≡ verdict (bitCases (bits width) lent span index) ⌝ }
+    ensures { λ r. ⌜ Judges (bitCases (bits width) lent span index) r ⌝ }
 {
     let verdict = span.check(width, lent);
     match verdict {
@@ -34,7 +35,7 @@ pub fn check_bit(width: Width, lent: usize, span: Span, index: usize) -> Verdict
 
 // Load, row by row: 1 to 3, then 4 and 5.
 fn check_rows(width: Width, lent: usize, span: Span, k: usize) -> Verdict
-    ensures { λ r. ⌜ r ≡ verdict (loadCases (bits width) lent span k) ⌝ }
+    ensures { λ r. ⌜ Judges (loadCases (bits width) lent span k) r ⌝ }
 {
     let verdict = span.check(width, lent);
     match verdict {
@@ -84,7 +85,7 @@ fn is_begun(lent: usize, word: usize, len: usize, k: usize) -> bool
 // The same where a word holds the longest field, so that a field has one word or two: what is accepted is seen first, and in one word sooner.
 fn check_chunk(width: Width, lent: usize, span: Span, k: usize) -> Verdict
     requires { ⌜ bits width ≡ chunk ⌝ }
-    ensures { λ r. ⌜ r ≡ verdict (loadCases (bits width) lent span k) ⌝ }
+    ensures { λ r. ⌜ Judges (loadCases (bits width) lent span k) r ⌝ }
 {
     let begun = is_begun(lent, span.word, span.len, k);
     if !begun {
@@ -105,7 +106,7 @@ fn check_chunk(width: Width, lent: usize, span: Span, k: usize) -> Verdict
 
 // Load: 1 to 3, then 4 and 5.
 pub fn check_load(width: Width, lent: usize, span: Span, k: usize) -> Verdict
-    ensures { λ r. ⌜ r ≡ verdict (loadCases (bits width) lent span k) ⌝ }
+    ensures { λ r. ⌜ Judges (loadCases (bits width) lent span k) r ⌝ }
 {
     if width.bits() == CHUNK {
         return check_chunk(width, lent, span, k);
@@ -122,7 +123,7 @@ pub fn check_store(
     sign: Sign,
     value: Number,
 ) -> Verdict
-    ensures { λ r. ⌜ r ≡ verdict (storeCases (bits width) lent span k sign (whole value)) ⌝ }
+    ensures { λ r. ⌜ Judges (storeCases (bits width) lent span k sign (whole value)) r ⌝ }
 {
     let verdict = check_load(width, lent, span, k);
     match verdict {
@@ -147,7 +148,7 @@ pub fn check_strict(
     sign: Sign,
     value: Number,
 ) -> Verdict
-    ensures { λ r. ⌜ r ≡ verdict (strictCases (bits width) lent span k sign (whole value)) ⌝ }
+    ensures { λ r. ⌜ Judges (strictCases (bits width) lent span k sign (whole value)) r ⌝ }
 {
     let verdict = span.check(width, lent);
     match verdict {

@@ -1,1 +1,3 @@
+pub mod OneReply
 pub mod Performed
+pub mod Runs

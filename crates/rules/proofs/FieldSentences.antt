@@ -17,19 +17,15 @@ use Rattle.rules.specs.Positions.{start, spanBit}
 use Rattle.rules.specs.Fields.{exponent, loadOf, readAs, signedOf, bitsOf, storeOf, isInteger}
 use Rattle.rules.specs.Refusals.{verdict, _when_, spanCases, fieldCases, valueCases, fittingCases, loadCases, storeCases, strictCases}
 use Rattle.rules.specs.Calls.{Answer, done, a-number, said, unless, Call, load, store, strictStore, spanCovers, cases, answer!, after!, answer, after, writes!, writes}
-use Rattle.rules.proofs.Row.{Words, bitAt-at}
+use Rattle.rules.proofs.Row.{Words}
 use Rattle.rules.proofs.Field.{load-lt, load-bit, store-load, store-low}
 use Rattle.rules.proofs.Signed.{signed-range, signed-low, fits-returned}
 use Rattle.rules.proofs.Tables.{Inside, fine-parts, goes, last-clear}
 use Rattle.rules.proofs.Accepted.{Sized, fine-load, fine-store, fine-strict}
-use Rattle.rules.proofs.Sentences.{accepted-call, stored-loaded, strictly-stored}
-use Rattle.rules.proofs.Footprints.{rules, length-after}
+use Rattle.rules.proofs.Sentences.{fine-of-done, accepted-call, stored-loaded, strictly-stored}
+use Rattle.rules.proofs.Footprints.{beside, length-after}
 
 -- ---- an answer that is no refusal tells that the request was accepted
-
-done-fine : (v : Verdict) (a : Answer) → said v a ≡ done → v ≡ Fine
-done-fine Fine a e = refl
-done-fine (Refused r) a e = let z : _≡_ {A = ℕ} 0 1 = cc in absurd (omega arith)
 
 number-fine : (v : Verdict) (a : Answer) (z : ℤ) → said v a ≡ a-number z → v ≡ Fine
 number-fine Fine a z e = refl
@@ -38,14 +34,9 @@ number-fine (Refused r) a z e = let z : _≡_ {A = ℕ} 0 1 = cc in absurd (omeg
 one-integer : (y z : ℤ) → a-number y ≡ a-number z → y ≡ z
 one-integer y z e = cc
 
-module _ (W : ℕ) (c : Call) (ws : List ℕ) where
-  fine-of-done : answer W c ws ≡ done → verdict (cases W (length ws) c) ≡ Fine
-  unfolding answer
-  fine-of-done e = done-fine (verdict (cases W (length ws) c)) (answer! W c ws) e
-
-  fine-of-number : (z : ℤ) → answer W c ws ≡ a-number z → verdict (cases W (length ws) c) ≡ Fine
-  unfolding answer
-  fine-of-number z e = number-fine (verdict (cases W (length ws) c)) (answer! W c ws) z e
+fine-of-number : (W : ℕ) (c : Call) (ws : List ℕ) (z : ℤ) → answer W c ws ≡ a-number z → verdict (cases W (length ws) c) ≡ Fine
+unfolding answer
+fine-of-number W c ws z e = number-fine (verdict (cases W (length ws) c)) (answer! W c ws) z e
 
 -- ---- what is loaded is a K-bit integer of its sign, with the loaded bits
 
@@ -137,18 +128,8 @@ module _ (W : ℕ) (wide : 0 < W) (ws : List ℕ) (s : Span) (K : ℕ) (e : Sign
   -- A store changes no bit outside its span, also in the words that it shares: the real position p of word k.
   pub store-beside : (g : Sign) (v : ℤ) (k p : ℕ) → p < W → spanCovers W s (k * W + p) ≡ false
       → (bitN (getD (after W (store s K e g v) ws) k 0) p ≡ bitN (getD ws k 0) p) × (bitN (getD (after W (strictStore s K e g v) ws) k 0) p ≡ bitN (getD ws k 0) p)
-  unfolding writes writes!
-  store-beside g v k p h out = (
-    beside (store s K e g v) (quiet (verdict (cases W (length ws) (store s K e g v)))),
-    beside (strictStore s K e g v) (quiet (verdict (cases W (length ws) (strictStore s K e g v)))),
-  )
-    where
-      quiet : (t : Verdict) → unless t (spanCovers W s (k * W + p)) false ≡ false
-      quiet Fine = out
-      quiet (Refused r) = refl
-
-      beside : (c : Call) → writes W (length ws) c (k * W + p) ≡ false → bitN (getD (after W c ws) k 0) p ≡ bitN (getD ws k 0) p
-      beside c q = sym (bitAt-at W (after W c ws) k p h) ∙ rules W wide (length ws) .frame c ws refl (k * W + p) q ∙ bitAt-at W ws k p h
+  unfolding writes!
+  store-beside g v k p h out = (beside W wide (store s K e g v) ws k p h out, beside W wide (strictStore s K e g v) ws k p h out)
 
   -- Bit i weighs 2 to its exponent: the number loaded has it there.
   pub weighs : (u i : ℕ) → answer W (load s K e Unsigned) ws ≡ a-number (pos u) → i < s .len → bitN u (exponent W (s .order) e (start W s) (s .len) i) ≡ spanBit W ws s i

@@ -6,11 +6,11 @@ use mathlib.Core.List.{List, [], _∷_}
 use native.Mathlib.Nat.{add-zero}
 use native.Mathlib.Decide.{decLt}
 use native.Mathlib.Omega.{arith}
-use lib.ListN.{length}
+use lib.ListN.{length, getD}
 use lib.Dec.{eqb}
 use borrow.Author.Tests.{eqb-true}
 use Rattle.rules.specs.Types.{Order, Span, Verdict, Fine, Refused, Lsb0, Msb0}
-use Rattle.rules.specs.Bits.{bitAt}
+use Rattle.rules.specs.Bits.{bitN, bitAt}
 use Rattle.rules.specs.Positions.{mirror, row, start, spanBit, within, over, spliced, covers, position}
 use Rattle.rules.specs.Fields.{loadOf, readAs, storeOf}
 use Rattle.rules.specs.Rows.{copied, moved, copiedInside, applied, rightBit, combined, sameBits, sameSpans}
@@ -18,7 +18,7 @@ use Rattle.rules.specs.Refusals.{verdict}
 use Rattle.rules.specs.Calls.{says-yes, says-no, a-bit, a-number, said, unless, Side, here, there, Call, readBit, writeBit, load, store, strictStore, copyBetween, copyInside, combine, equal, findFirst, findLast, wordsOf, firstFound, lastFound, spanCovers, sideReads, cases, answer!, after!, reads!, writes!, answer, after, reads, writes}
 use Rattle.rules.proofs.Parties.{Rules}
 use Rattle.rules.proofs.Weigh.{weigh-ext}
-use Rattle.rules.proofs.Row.{Words, bit-row, bitAt-past, row-bit, mirror-lt}
+use Rattle.rules.proofs.Row.{Words, bitAt-at, bit-row, bitAt-past, row-bit, mirror-lt}
 use Rattle.rules.proofs.Splice.{length-spliced, words-spliced, row-spliced}
 use Rattle.rules.proofs.Search.{first-ext, last-ext}
 use Rattle.rules.proofs.Spans.{within-low, within-high, covers-at}
@@ -242,3 +242,13 @@ module _ (W : ℕ) (pos : 0 < W) where
   pub length-after : (c : Call) (ws : List ℕ) → length (after W c ws) ≡ length ws
   unfolding after
   length-after c ws = length-gate (verdict (cases W (length ws) c)) c ws
+
+  -- What a call does not write stays: the real position p of word k, also in a word that it writes elsewhere.
+  pub beside : (c : Call) (ws : List ℕ) (k p : ℕ) → p < W → writes! W c (k * W + p) ≡ false → bitN (getD (after W c ws) k 0) p ≡ bitN (getD ws k 0) p
+  unfolding writes
+  beside c ws k p h out =
+      sym (bitAt-at W (after W c ws) k p h) ∙ rules (length ws) .frame c ws refl (k * W + p) (quiet (verdict (cases W (length ws) c))) ∙ bitAt-at W ws k p h
+    where
+      quiet : (t : Verdict) → unless t (writes! W c (k * W + p)) false ≡ false
+      quiet Fine = out
+      quiet (Refused r) = refl

@@ -50,6 +50,7 @@ pub mod Sizes
 pub mod Widths
 pub mod Wordless
 pub mod Sentences
+pub mod Unread
 pub mod Reading
 pub mod SingleBit
 pub mod FieldCalls
@@ -64,5 +65,6 @@ pub mod Footprints
 pub mod Isolation
 pub mod IsolationExample
 pub mod Tight
--- fields, once more: sentences that need the third demand's frame
+-- sentences that need the third demand's frame
 pub mod FieldSentences
+pub mod RowSentences

@@ -5,23 +5,23 @@ use mathlib.Core.List.{List}
 use Prim.Native.Nat.{ℕ}
 use lib.Dec.{eqb}
 use lib.IntN.{ℤ, pos, negsuc}
-use Rattle.rules.specs.Types.{Refusal, TooManyWords, IndexTooLarge, OutOfBounds, NoSuchK, FieldLength, OrdersDiffer, LengthsDiffer, NotAnInteger, DoesNotFit, NotBelow, Span, Number, Up, Down, PositionAnswer, Position·Is, Position·Refused, SelectorAnswer, Selector·Is, Selector·Refused, MaskAnswer, Mask·Is, Mask·Refused, SplitAnswer, Parts, Split·Refused, SpanAnswer, Span·Is, Span·Refused, BitAnswer, Bit·Is, Bit·Refused, NumberAnswer, Number·Is, Number·Refused, LowBitsAnswer, LowBits·Is, LowBits·Refused, MachineAnswer, Machine·Is, Machine·Refused, WriteAnswer, Done, Write·Refused, EqualAnswer, Yes, No, Equal·Refused, SearchAnswer, At, Absent, Search·Refused}
+use Rattle.rules.specs.Types.{Refusal, TooManyWords, IndexTooLarge, OutOfBounds, NoSuchK, FieldLength, OrdersDiffer, LengthsDiffer, NotAnInteger, DoesNotFit, NotBelow, Verdict, Fine, Refused, Span, Number, Up, Down, PositionAnswer, Position·Is, Position·Refused, SelectorAnswer, Selector·Is, Selector·Refused, MaskAnswer, Mask·Is, Mask·Refused, SplitAnswer, Parts, Split·Refused, SpanAnswer, Span·Is, Span·Refused, BitAnswer, Bit·Is, Bit·Refused, NumberAnswer, Number·Is, Number·Refused, LowBitsAnswer, LowBits·Is, LowBits·Refused, MachineAnswer, Machine·Is, Machine·Refused, WriteAnswer, Done, Write·Refused, EqualAnswer, Yes, No, Equal·Refused, SearchAnswer, At, Absent, Search·Refused}
 use Rattle.rules.specs.Fields.{whole}
-use Rattle.rules.specs.Refusals.{number}
+use Rattle.rules.specs.Refusals.{Case, number, verdict}
 use Rattle.rules.specs.Calls.{digit}
-use Rattle.rules.specs.Answers.{positionSays, selectorSays, maskSays, splitSays, spanSays, bitSays, numberSays, lowBitsSays, machineSays, writeSays, equalSays, searchSays, Gives}
+use Rattle.rules.specs.Answers.{verdictSays, Judges, positionSays, selectorSays, maskSays, splitSays, spanSays, bitSays, numberSays, lowBitsSays, machineSays, writeSays, equalSays, searchSays, Gives}
 
 -- a function with a way back takes no two things to one
-onto : {A B : Type 0} (f : A → B) (g : B → A) → ((x : A) → g (f x) ≡ x) → (x y : A) → f x ≡ f y → x ≡ y
+pub onto : {A B : Type 0} (f : A → B) (g : B → A) → ((x : A) → g (f x) ≡ x) → (x y : A) → f x ≡ f y → x ≡ y
 onto f g back x y e = sym (back x) ∙ ap g e ∙ back y
 
 -- the refusal with a number
-abbrev of-number : ℕ → Refusal
+abbrev pub of-number : ℕ → Refusal
 of-number n =
     cond (eqb n 1) TooManyWords (cond (eqb n 2) IndexTooLarge (cond (eqb n 3) OutOfBounds (cond (eqb n 4) NoSuchK (cond (eqb n 5) FieldLength
     (cond (eqb n 6) OrdersDiffer (cond (eqb n 7) LengthsDiffer (cond (eqb n 8) NotAnInteger (cond (eqb n 9) DoesNotFit NotBelow))))))))
 
-numbered : (r : Refusal) → of-number (number r) ≡ r
+pub numbered : (r : Refusal) → of-number (number r) ≡ r
 numbered TooManyWords = refl
 numbered IndexTooLarge = refl
 numbered OutOfBounds = refl
@@ -36,23 +36,40 @@ numbered NotBelow = refl
 pub one-number : (r s : Refusal) → number r ≡ number s → r ≡ s
 one-number = onto number of-number numbered
 
-abbrev of-whole : ℤ → Number
+abbrev pub of-whole : ℤ → Number
 of-whole (pos n) = Up n
 of-whole (negsuc n) = Down n
 
-wholes : (v : Number) → of-whole (whole v) ≡ v
+pub wholes : (v : Number) → of-whole (whole v) ≡ v
 wholes (Up n) = refl
 wholes (Down n) = refl
 
-digit-one : (a b : Bool) → digit a ≡ digit b → a ≡ b
+pub digit-one : (a b : Bool) → digit a ≡ digit b → a ≡ b
 digit-one = onto digit (λ n. eqb n 1) back
   where
     back : (b : Bool) → eqb (digit b) 1 ≡ b
     back true = refl
     back false = refl
 
-whole-one : (v w : Number) → whole v ≡ whole w → v ≡ w
+pub whole-one : (v w : Number) → whole v ≡ whole w → v ≡ w
 whole-one = onto whole of-whole wholes
+
+pub one-verdict : (x y : Verdict) → verdictSays x ≡ verdictSays y → x ≡ y
+one-verdict Fine Fine e = refl
+one-verdict Fine (Refused b) e = cc
+one-verdict (Refused a) Fine e = cc
+one-verdict (Refused a) (Refused b) e = ap Refused (one-number a b (cc))
+
+-- a check's promise, and its answer as the verdict itself
+pub judged : {t : List Case} {r : Verdict} → Judges t r → r ≡ verdict t
+judged {t} {r} j = one-verdict r (verdict t) (j .says)
+
+pub judges : {t : List Case} {r : Verdict} → r ≡ verdict t → Judges t r
+judges e = record { says = ap verdictSays e }
+
+-- no second answer keeps it
+pub only-verdict : {t : List Case} {r r′ : Verdict} → Judges t r → Judges t r′ → r ≡ r′
+only-verdict j k = judged j ∙ sym (judged k)
 
 pub one-position : (x y : PositionAnswer) → positionSays x ≡ positionSays y → x ≡ y
 one-position (Position·Is a) (Position·Is b) e = ap (λ (n : ℕ). Position·Is (record { 0 = n })) (cc)

@@ -16,7 +16,7 @@ use Rattle.rules.specs.Calls.{Answer, refused, done, says-yes, says-no, 
 use Rattle.rules.specs.Answers.{writeSays, Gives}
 use Rattle.rules.proofs.Accepted.{fine-pair, fine-copy}
 use Rattle.rules.proofs.Splice.{splice-eq}
-use Rattle.rules.proofs.Sentences.{refused-call, accepted-call, right-here, right-past}
+use Rattle.rules.proofs.Sentences.{refused-call, accepted-call, refused-swap, accepted-swap, right-here, right-past}
 
 -- ---- any writing call
 
@@ -106,23 +106,15 @@ same-pair W ws s vs t e =
 module _ (W : ℕ) (ws : List ℕ) (s : Span) (vs : List ℕ) (t : Span) where
   pub swap-refused : (r : Refusal) → verdict (copyCases W (length ws) s (length vs) t) ≡ Refused r
       → (refused (number r) ≡ swapAnswer W ws s vs t) × (ws ≡ swapLeft W ws s vs t) × (vs ≡ swapRight W ws s vs t)
-  unfolding swapAnswer swapLeft swapRight swapVerdict
-  swap-refused r e = (
-    sym (ap (λ (v : Verdict). said v done) e),
-    sym (ap (λ (v : Verdict). unless v (copied W ws s vs t) ws) e),
-    sym (ap (λ (v : Verdict). unless v (copied W vs t ws s) vs) e),
-  )
+  unfolding swapVerdict
+  swap-refused r e = let k = refused-swap W ws s vs t r e in (sym (k .0), sym (k .1), sym (k .2))
 
   pub swap-done : {left right : List ℕ} → verdict (copyCases W (length ws) s (length vs) t) ≡ Fine
       → left ≡ spliced W (s .order) ws (s .word * W + s .head .0) (s .len) (λ i. row W (s .order) vs (t .word * W + t .head .0 + i))
       → right ≡ spliced W (s .order) vs (t .word * W + t .head .0) (s .len) (λ i. row W (s .order) ws (s .word * W + s .head .0 + i))
       → (done ≡ swapAnswer W ws s vs t) × (left ≡ swapLeft W ws s vs t) × (right ≡ swapRight W ws s vs t)
-  unfolding swapAnswer swapLeft swapRight swapVerdict
-  swap-done e el er = (
-    sym (ap (λ (v : Verdict). said v done) e),
-    el ∙ copied-is W ws s vs t e ∙ sym (ap (λ (v : Verdict). unless v (copied W ws s vs t) ws) e),
-    er ∙ same-pair W ws s vs t e ∙ sym (ap (λ (v : Verdict). unless v (copied W vs t ws s) vs) e),
-  )
+  unfolding swapVerdict
+  swap-done e el er = let k = accepted-swap W ws s vs t e in (sym (k .0), el ∙ copied-is W ws s vs t e ∙ sym (k .1), er ∙ same-pair W ws s vs t e ∙ sym (k .2))
 
 -- ---- equal
 

@@ -16,7 +16,7 @@ use Rattle.rules.specs.Positions.{row, start, spanBit, position, mirror,
 use Rattle.rules.specs.Fields.{loadOf, readAs, bitsOf, storeOf, fits}
 use Rattle.rules.specs.Rows.{copied, moved, copiedInside, applied, rightBit, combined, sameBits, sameSpans, firstWith, lastWith}
 use Rattle.rules.specs.Refusals.{number, verdict}
-use Rattle.rules.specs.Calls.{refused, found-at, absent, said, unless, Call, firstFound, lastFound, cases, answer!, after!, answer, after, swapVerdict, swapLeft, swapRight}
+use Rattle.rules.specs.Calls.{Answer, refused, done, found-at, absent, said, unless, Call, firstFound, lastFound, cases, answer!, after!, answer, after, swapVerdict, swapAnswer, swapLeft, swapRight}
 use Rattle.rules.proofs.Bit.{bit-bit, bit-cases}
 use Rattle.rules.proofs.Row.{row-bit}
 use Rattle.rules.proofs.Splice.{spliced-inside}
@@ -44,6 +44,35 @@ refused-call W c ws r e = (ap (λ (v : Verdict). said v (answer! W c ws)) e, ap 
 pub accepted-call : (W : ℕ) (c : Call) (ws : List ℕ) → verdict (cases W (length ws) c) ≡ Fine → (answer W c ws ≡ answer! W c ws) × (after W c ws ≡ after! W c ws)
 unfolding answer after
 accepted-call W c ws e = (ap (λ (v : Verdict). said v (answer! W c ws)) e, ap (λ (v : Verdict). unless v (after! W c ws) ws) e)
+
+-- the same of a swap: both buffers
+module _ (W : ℕ) (ws : List ℕ) (s : Span) (vs : List ℕ) (t : Span) where
+  pub refused-swap : (r : Refusal) → swapVerdict W ws s vs t ≡ Refused r
+      → (swapAnswer W ws s vs t ≡ refused (number r)) × (swapLeft W ws s vs t ≡ ws) × (swapRight W ws s vs t ≡ vs)
+  unfolding swapAnswer swapLeft swapRight
+  refused-swap r e = (
+    ap (λ (v : Verdict). said v done) e,
+    ap (λ (v : Verdict). unless v (copied W ws s vs t) ws) e,
+    ap (λ (v : Verdict). unless v (copied W vs t ws s) vs) e,
+  )
+
+  pub accepted-swap : swapVerdict W ws s vs t ≡ Fine
+      → (swapAnswer W ws s vs t ≡ done) × (swapLeft W ws s vs t ≡ copied W ws s vs t) × (swapRight W ws s vs t ≡ copied W vs t ws s)
+  unfolding swapAnswer swapLeft swapRight
+  accepted-swap e = (
+    ap (λ (v : Verdict). said v done) e,
+    ap (λ (v : Verdict). unless v (copied W ws s vs t) ws) e,
+    ap (λ (v : Verdict). unless v (copied W vs t ws s) vs) e,
+  )
+
+-- an answer `done` tells that the request was accepted
+pub done-fine : (v : Verdict) (a : Answer) → said v a ≡ done → v ≡ Fine
+done-fine Fine a e = refl
+done-fine (Refused r) a e = let z : _≡_ {A = ℕ} 0 1 = cc in absurd (omega arith)
+
+pub fine-of-done : (W : ℕ) (c : Call) (ws : List ℕ) → answer W c ws ≡ done → verdict (cases W (length ws) c) ≡ Fine
+unfolding answer
+fine-of-done W c ws e = done-fine (verdict (cases W (length ws) c)) (answer! W c ws) e
 
 -- ---- fields
 
@@ -98,16 +127,6 @@ past-end a h = go (bit-cases a h)
     go : (a ≡ 0) ⊎ (a ≡ 1) → (applied 8 a 0 ≡ 0) × (applied 14 a 0 ≡ a) × (applied 6 a 0 ≡ a)
     go (inl e) = rw e (refl, refl, refl)
     go (inr e) = rw e (refl, refl, refl)
-
--- Swap: each gets the other's old bits.
-pub swap-bits : (W : ℕ) → 0 < W → (ws : List ℕ) (s : Span) (vs : List ℕ) (t : Span) → swapVerdict W ws s vs t ≡ Fine
-    → start W s + s .len ≤ length ws * W → start W t + t .len ≤ length vs * W → (i : ℕ) → i < s .len → i < t .len
-    → (spanBit W (swapLeft W ws s vs t) s i ≡ spanBit W vs t i) × (spanBit W (swapRight W ws s vs t) t i ≡ spanBit W ws s i)
-unfolding swapLeft swapRight
-swap-bits W pos ws s vs t e b d i h l = (
-  ap (λ (v : Verdict). spanBit W (unless v (copied W ws s vs t) ws) s i) e ∙ copy-bit W pos ws s b vs t i h,
-  ap (λ (v : Verdict). spanBit W (unless v (copied W vs t ws s) vs) t i) e ∙ copy-bit W pos vs t d ws s i l,
-)
 
 -- Equal: yes exactly if lengths and all bits agree.
 pub same-all : (n : ℕ) (b c : ℕ → ℕ) → sameBits n b c ≡ true → (i : ℕ) → i < n → b i ≡ c i

@@ -2,16 +2,76 @@
 use Prim.Native.Nat.{ℕ, _+_, _*_, _≤_, _<_}
 use mathlib.Core.Path.{_≡_, refl, sym, ap, _∙_}
 use mathlib.Core.Bool.{Bool, true, false, not, or-true}
-use mathlib.Core.List.{List, [], _∷_, _++_}
+use mathlib.Core.List.{List, [], _∷_, _++_, map}
 use native.Mathlib.Omega.{arith}
 use borrow.Author.Tests.{ltb-false, leb-false, leb-true, not-false, lt-ltb, le-ltb, lt-leb, le-leb, eq-eqb, ne-eqb}
 use lib.Dec.{eqb}
-use Rattle.rules.specs.Types.{Span, Refusal, TooManyWords, IndexTooLarge, OutOfBounds, NoSuchK, FieldLength, Verdict, Fine, Refused, Lsb0, Unsigned, Signed, NotAnInteger, DoesNotFit, NotBelow}
+use Rattle.rules.specs.Types.{Order, Span, Refusal, TooManyWords, IndexTooLarge, OutOfBounds, NoSuchK, FieldLength, OrdersDiffer, LengthsDiffer, Verdict, Fine, Refused, Lsb0, Msb0, Unsigned, Signed, NotAnInteger, DoesNotFit, NotBelow}
 use Rattle.rules.specs.Positions.{inBounds}
 use Rattle.rules.specs.Fields.{isSize, isInteger, fits}
-use Rattle.rules.specs.Refusals.{Case, _when_, orElse, verdict, spanCases, fieldCases, maskCases, valueCases, fittingCases}
+use Rattle.rules.specs.Refusals.{Case, _when_, orElse, verdict, spanCases, fieldCases, maskCases, valueCases, fittingCases, strictCases, sameOrder, pairCases, copyCases, insideCases}
 use lib.IntN.{pos, negsuc}
 use Rattle.rules.specs.Samples.{at-head}
+
+-- ---- the order of refusals, by requests that each break several rules: the lowest number first, and with two spans 1 to 3 of the first, 1 to 3 of
+-- the second, then the rest
+
+-- spans of one byte or more: 8 bits, 9 bits, an index of 8
+abbrev pub fits-in : Order → Span
+fits-in o = at-head o 0 8
+
+abbrev pub too-long : Order → Span
+too-long o = at-head o 0 9
+
+abbrev pub no-index : Order → Span
+no-index o = at-head o 8 9
+
+-- two spans (copy between and swap; boolean and equal), copy inside, a field that is strictly stored
+pub in-order : List Verdict
+in-order = map verdict (
+  copyCases 8 65537 (no-index Lsb0) 65537 (no-index Msb0)
+  ∷ copyCases 8 1 (no-index Lsb0) 65537 (no-index Msb0)
+  ∷ copyCases 8 1 (too-long Lsb0) 65537 (no-index Msb0)
+  ∷ copyCases 8 1 (fits-in Lsb0) 65537 (no-index Msb0)
+  ∷ copyCases 8 1 (fits-in Lsb0) 1 (no-index Msb0)
+  ∷ copyCases 8 1 (fits-in Lsb0) 1 (too-long Msb0)
+  ∷ copyCases 8 1 (fits-in Lsb0) 2 (too-long Msb0)
+  ∷ copyCases 8 1 (fits-in Lsb0) 2 (too-long Lsb0)
+  ∷ copyCases 8 1 (fits-in Lsb0) 1 (fits-in Lsb0)
+  ∷ pairCases 8 1 (too-long Lsb0) 65537 (no-index Msb0)
+  ∷ pairCases 8 1 (fits-in Lsb0) 1 (too-long Msb0)
+  ∷ pairCases 8 1 (fits-in Lsb0) 2 (too-long Msb0)
+  ∷ pairCases 8 1 (fits-in Lsb0) 2 (too-long Lsb0)
+  ∷ insideCases 8 65537 (no-index Lsb0) 1 9 1
+  ∷ insideCases 8 1 (no-index Lsb0) 1 9 1
+  ∷ insideCases 8 1 (too-long Lsb0) 1 9 1
+  ∷ insideCases 8 1 (fits-in Lsb0) 1 8 0
+  ∷ insideCases 8 1 (fits-in Lsb0) 0 8 1
+  ∷ insideCases 8 1 (fits-in Lsb0) 0xffffffffffffffff 1 0
+  ∷ insideCases 8 1 (fits-in Lsb0) 1 7 0
+  ∷ strictCases 8 65537 (no-index Lsb0) 7 Unsigned (pos 512)
+  ∷ strictCases 8 1 (no-index Lsb0) 7 Unsigned (pos 512)
+  ∷ strictCases 8 1 (too-long Lsb0) 7 Unsigned (pos 512)
+  ∷ strictCases 8 2 (too-long Lsb0) 7 Unsigned (pos 512)
+  ∷ strictCases 8 2 (too-long Lsb0) 8 Unsigned (pos 512)
+  ∷ strictCases 8 2 (fits-in Lsb0) 8 Unsigned (pos 512)
+  ∷ strictCases 8 2 (fits-in Lsb0) 16 Unsigned (pos 512)
+  ∷ strictCases 8 2 (too-long Lsb0) 16 Unsigned (pos 511)
+  ∷ []
+)
+
+pub refused-in-order :
+    in-order
+    ≡ Refused TooManyWords ∷ Refused IndexTooLarge ∷ Refused OutOfBounds ∷ Refused TooManyWords ∷ Refused IndexTooLarge ∷ Refused OutOfBounds
+    ∷ Refused OrdersDiffer ∷ Refused LengthsDiffer ∷ Fine
+    ∷ Refused OutOfBounds ∷ Refused OutOfBounds ∷ Refused OrdersDiffer ∷ Fine
+    ∷ Refused TooManyWords ∷ Refused IndexTooLarge ∷ Refused OutOfBounds ∷ Refused NotBelow ∷ Refused NotBelow ∷ Refused NotBelow ∷ Fine
+    ∷ Refused TooManyWords ∷ Refused IndexTooLarge ∷ Refused OutOfBounds ∷ Refused NoSuchK ∷ Refused FieldLength ∷ Refused NotAnInteger ∷ Refused DoesNotFit
+    ∷ Fine ∷ []
+unfolding in-order verdict spanCases fieldCases valueCases fittingCases strictCases pairCases copyCases insideCases inBounds isSize isInteger fits
+refused-in-order = refl
+
+-- ---- the limits
 
 -- 65,536 words are accepted, 65,537 are not; a head of 7 is, 8 is not; the last bit is in bounds, one more is not
 spans :

@@ -4,10 +4,15 @@ use Prim.Native.Nat.{ℕ}
 use mathlib.Core.Path.{_≡_}
 use mathlib.Core.List.{List}
 use lib.IntN.{pos}
-use Rattle.rules.specs.Types.{PositionAnswer, Position·Is, Position·Refused, SelectorAnswer, Selector·Is, Selector·Refused, MaskAnswer, Mask·Is, Mask·Refused, SplitAnswer, Parts, Split·Refused, SpanAnswer, Span·Is, Span·Refused, BitAnswer, Bit·Is, Bit·Refused, NumberAnswer, Number·Is, Number·Refused, LowBitsAnswer, LowBits·Is, LowBits·Refused, MachineAnswer, Machine·Is, Machine·Refused, WriteAnswer, Done, Write·Refused, EqualAnswer, Yes, No, Equal·Refused, SearchAnswer, At, Absent, Search·Refused}
+use Rattle.rules.specs.Types.{Verdict, Fine, Refused, PositionAnswer, Position·Is, Position·Refused, SelectorAnswer, Selector·Is, Selector·Refused, MaskAnswer, Mask·Is, Mask·Refused, SplitAnswer, Parts, Split·Refused, SpanAnswer, Span·Is, Span·Refused, BitAnswer, Bit·Is, Bit·Refused, NumberAnswer, Number·Is, Number·Refused, LowBitsAnswer, LowBits·Is, LowBits·Refused, MachineAnswer, Machine·Is, Machine·Refused, WriteAnswer, Done, Write·Refused, EqualAnswer, Yes, No, Equal·Refused, SearchAnswer, At, Absent, Search·Refused}
 use Rattle.rules.specs.Fields.{whole}
-use Rattle.rules.specs.Refusals.{number}
+use Rattle.rules.specs.Refusals.{Case, number, verdict}
 use Rattle.rules.specs.Calls.{Answer, refused, done, a-position, a-selector, a-mask, a-span, two-spans, a-bit, a-number, says-yes, says-no, found-at, absent, digit}
+
+-- a check: nothing to refuse, or a refusal's number
+abbrev pub verdictSays : Verdict → Answer
+verdictSays Fine = done
+verdictSays (Refused r) = refused (number r)
 
 -- a real position, or a refusal's number
 abbrev pub positionSays : PositionAnswer → Answer
@@ -70,6 +75,10 @@ abbrev pub searchSays : SearchAnswer → Answer
 searchSays (At i) = found-at i
 searchSays Absent = absent
 searchSays (Search·Refused r) = refused (number r)
+
+-- what a check promises of its answer r: what the table's first row that holds says
+pub record Judges (table : List Case) (r : Verdict) : Type 0 where
+  pub says : verdictSays r ≡ verdictSays (verdict table)
 
 -- what a call promises of its answer r and of the memory m that it leaves: this one answer, and each lent bit
 pub record Gives {A : Type 0} (answer : A) (memory : List ℕ) (r : A) (m : List ℕ) : Type 0 where

@@ -15,7 +15,7 @@ ghost use Rattle.rules.specs.Bits.{bits};
 ghost use Rattle.rules.specs.Positions.{inBounds, firstHalf, secondHalf};
 ghost use Rattle.rules.specs.Refusals.{verdict, spanCases, splitCases};
 ghost use Rattle.rules.specs.Calls.{splitAnswer, shortenAnswer, shiftAnswer};
-ghost use Rattle.rules.specs.Answers.{splitSays, spanSays};
+ghost use Rattle.rules.specs.Answers.{Judges, splitSays, spanSays};
 
 impl Span {
     // Whether a span is not in bounds, for a caller that has seen that 1 and 2 do not hold. Nothing is summed before it is known to be small, so any
@@ -42,7 +42,7 @@ impl Span {
 
     // Refusals 1 to 3 over `lent` words.
     pub fn check(self, width: Width, lent: usize) -> Verdict
-        ensures { λ r. ⌜ r ≡ verdict (spanCases (bits width) lent self) ⌝ }
+        ensures { λ r. ⌜ Judges (spanCases (bits width) lent self) r ⌝ }
     {
         let w = width.bits();
         let head = self.head.0;
@@ -61,7 +61,7 @@ impl Span {
 
     // Refusals 1 to 3, and 10 where the place p is above the length.
     pub fn check_place(self, width: Width, lent: usize, p: usize) -> Verdict
-        ensures { λ r. ⌜ r ≡ verdict (splitCases (bits width) lent self p) ⌝ }
+        ensures { λ r. ⌜ Judges (splitCases (bits width) lent self p) r ⌝ }
     {
         let verdict = self.check(width, lent);
         match verdict {

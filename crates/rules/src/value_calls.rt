@@ -12,9 +12,9 @@ ghost use mathlib.Core.Bool.{true, _||_};
 ghost use Prim.Native.Nat.{_%_, _^_, _≤_, _<_};
 ghost use lib.Dec.{eqb};
 ghost use Rattle.rules.specs.Fields.{isSize, whole, isInteger, fits, bitsOf, readAs};
-ghost use Rattle.rules.specs.Refusals.{verdict, fieldCases, valueCases, fittingCases};
+ghost use Rattle.rules.specs.Refusals.{fieldCases, valueCases, fittingCases};
 ghost use Rattle.rules.specs.Calls.{lowBitsAnswer, fittingAnswer, readAnswer, machineAnswer};
-ghost use Rattle.rules.specs.Answers.{numberSays, lowBitsSays, machineSays};
+ghost use Rattle.rules.specs.Answers.{Judges, numberSays, lowBitsSays, machineSays};
 
 // Whether K is one of the four: a power of two, and one of the bits 8, 16, 32 and 64.
 pub fn is_size(k: usize) -> bool
@@ -28,7 +28,7 @@ pub fn is_size(k: usize) -> bool
 
 // Refusals 4 and 5: K is 8, 16, 32 or 64, and a field has 1 to K bits.
 pub fn check_field(k: usize, len: usize) -> Verdict
-    ensures { λ r. ⌜ r ≡ verdict (fieldCases k len) ⌝ }
+    ensures { λ r. ⌜ Judges (fieldCases k len) r ⌝ }
 {
     let sized = is_size(k);
     if !sized {
@@ -83,7 +83,7 @@ impl Number {
 
     // Refusals 4, 5 and 8 of a value for a field of `len` bits.
     pub fn check(self, k: usize, len: usize, sign: Sign) -> Verdict
-        ensures { λ r. ⌜ r ≡ verdict (valueCases k len sign (whole self)) ⌝ }
+        ensures { λ r. ⌜ Judges (valueCases k len sign (whole self)) r ⌝ }
     {
         let verdict = check_field(k, len);
         match verdict {
@@ -101,7 +101,7 @@ impl Number {
 
     // Refusals 4, 5, 8 and 9 of a value that is to fit a field of `len` bits.
     pub fn check_fit(self, k: usize, len: usize, sign: Sign) -> Verdict
-        ensures { λ r. ⌜ r ≡ verdict (fittingCases k len sign (whole self)) ⌝ }
+        ensures { λ r. ⌜ Judges (fittingCases k len sign (whole self)) r ⌝ }
     {
         let verdict = self.check(k, len, sign);
         match verdict {

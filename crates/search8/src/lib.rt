@@ -11,9 +11,9 @@ use rules::Span;
 use rules::Verdict;
 use rules::Width;
 ghost use mathlib.Core.Path.{_≡_};
-ghost use Rattle.rules.specs.Refusals.{verdict, spanCases};
+ghost use Rattle.rules.specs.Refusals.{spanCases};
 ghost use Rattle.rules.specs.Calls.{findFirst, findLast, firstFound, lastFound, answer};
-ghost use Rattle.rules.specs.Answers.{searchSays};
+ghost use Rattle.rules.specs.Answers.{Judges, searchSays};
 
 // The smallest index of a one, or absent exactly if there is none; refusals 1 to 3.
 pub fn first_one(words: &[u8], span: Span) -> SearchAnswer
@@ -77,7 +77,7 @@ pub fn last_zero(words: &[u8], span: Span) -> SearchAnswer
 
 // Refusals 1 to 3 at this width.
 fn checked(span: Span, lent: usize) -> Verdict
-    ensures { λ r. ⌜ r ≡ verdict (spanCases 8 lent span) ⌝ }
+    ensures { λ r. ⌜ Judges (spanCases 8 lent span) r ⌝ }
 {
     span.check(Width::W8, lent)
 }

@@ -14,9 +14,10 @@ use Rattle.rules.proofs.Accepted.{Pair, fine-pair}
 use Rattle.rules.proofs.RowCalls.{combine-refused, combine-done}
 use Rattle.boolean64.proofs.boolean.Statement.{statement}
 use Rattle.boolean64.proofs.boolean.Tie as tie
+use Rattle.rules.proofs.OneAnswer.{judged}
 
 fine : (c : tie.After-enum-told) → (let a = c .before .before .before .before .before .args in verdict (pairCases 64 (length (now (a .words))) (a .span) (length (now (a .right))) (a .right-span)) ≡ Fine)
-fine c = sym (c .before .before .check-pair .ensures) ∙ c .enum-told .given .1
+fine c = sym (judged (c .before .before .check-pair .ensures)) ∙ c .enum-told .given .1
 
 held : (c : tie.After-enum-told) → (let a = c .before .before .before .before .before .args in Pair 64 (length (now (a .words))) (a .span) (length (now (a .right))) (a .right-span))
 held c = fine-pair 64 _ _ _ _ (fine c)
@@ -58,7 +59,7 @@ rest-requires : tie.Need-rest-requires
 rest-requires c κs = let h = held (c .before .before .before .before .before .before .before .before .before .before) in let l = h .left in let r = h .right in omega arith
 
 returns : tie.Need-returns
-returns c = combine-refused 64 (lit< tt) _ _ _ _ _ _ (sym (c .before .before .before .check-pair .ensures) ∙ c .before .verdict .given .1) refl
+returns c = combine-refused 64 (lit< tt) _ _ _ _ _ _ (sym (judged (c .before .before .before .check-pair .ensures)) ∙ c .before .verdict .given .1) refl
 
 same-length : tie.Need-same-length
 same-length c = search needs

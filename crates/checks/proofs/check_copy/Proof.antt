@@ -7,6 +7,7 @@ use Rattle.rules.specs.Refusals.{copyCases}
 use Rattle.rules.proofs.Tables.{stops, last-holds, last-clear}
 use Rattle.checks.proofs.check_copy.Statement.{statement}
 use Rattle.checks.proofs.check_copy.Tie as tie
+use Rattle.rules.proofs.OneAnswer.{judged, judges}
 
 check-pair-requires : tie.Need-check-pair-requires
 check-pair-requires c κs = search needs
@@ -19,15 +20,15 @@ enum-told c = search needs
 
 returns : tie.Need-returns
 unfolding copyCases
-returns c = sym (stops _ _ (sym (c .before .before .before .check-pair .ensures) ∙ c .before .pair .given .1))
+returns c = judges (sym (stops _ _ (sym (judged (c .before .before .before .check-pair .ensures)) ∙ c .before .pair .given .1)))
 
 returns-2 : tie.Need-returns-2
 unfolding copyCases
-returns-2 c = sym (last-clear _ _ _ (sym (c .before .before .before .before .before .check-pair .ensures) ∙ c .before .before .before .enum-told .given .1) (ap not (eq-eqb _ _ (c .if1 .taken))))
+returns-2 c = judges (sym (last-clear _ _ _ (sym (judged (c .before .before .before .before .before .check-pair .ensures)) ∙ c .before .before .before .enum-told .given .1) (ap not (eq-eqb _ _ (c .if1 .taken)))))
 
 returns-3 : tie.Need-returns-3
 unfolding copyCases
-returns-3 c = sym (last-holds _ _ _ (sym (c .before .before .before .before .before .check-pair .ensures) ∙ c .before .before .before .enum-told .given .1) (ap not (ne-eqb _ _ (c .if1 .left))))
+returns-3 c = judges (sym (last-holds _ _ _ (sym (judged (c .before .before .before .before .before .check-pair .ensures)) ∙ c .before .before .before .enum-told .given .1) (ap not (ne-eqb _ _ (c .if1 .left)))))
 
 pub check-copy-spec : {M : Type 1} → statement M
 check-copy-spec =

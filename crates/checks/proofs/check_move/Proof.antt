@@ -10,6 +10,7 @@ use Rattle.rules.specs.Refusals.{insideCases}
 use Rattle.rules.proofs.Tables.{stops, last-holds, last-clear}
 use Rattle.checks.proofs.check_move.Statement.{statement}
 use Rattle.checks.proofs.check_move.Tie as tie
+use Rattle.rules.proofs.OneAnswer.{judged, judges}
 
 check-requires : tie.Need-check-requires
 check-requires c κs = search needs
@@ -23,34 +24,34 @@ enum-told c = search needs
 returns : tie.Need-returns
 unfolding insideCases
 returns c =
-    let told = c .before in
+    judges (let told = c .before in
     let a = told .before .before .before .args in
-    sym (last-holds _ _ _ (sym (told .before .before .check .ensures) ∙ told .enum-told .given .1) (ap (λ (b : Bool). b || ltb (a .span .len) (a .to + a .count)) (lt-ltb (a .span .len) (a .from + a .count) (omega arith))))
+    sym (last-holds _ _ _ (sym (judged (told .before .before .check .ensures)) ∙ told .enum-told .given .1) (ap (λ (b : Bool). b || ltb (a .span .len) (a .to + a .count)) (lt-ltb (a .span .len) (a .from + a .count) (omega arith)))))
 
 returns-2 : tie.Need-returns-2
 unfolding insideCases
 returns-2 c =
-    let told = c .before .before in
+    judges (let told = c .before .before in
     let a = told .before .before .before .args in
-    sym (last-holds _ _ _ (sym (told .before .before .check .ensures) ∙ told .enum-told .given .1) (ap (λ (b : Bool). b || ltb (a .span .len) (a .to + a .count)) (lt-ltb (a .span .len) (a .from + a .count) (omega arith))))
+    sym (last-holds _ _ _ (sym (judged (told .before .before .check .ensures)) ∙ told .enum-told .given .1) (ap (λ (b : Bool). b || ltb (a .span .len) (a .to + a .count)) (lt-ltb (a .span .len) (a .from + a .count) (omega arith)))))
 
 returns-3 : tie.Need-returns-3
 unfolding insideCases
 returns-3 c =
-    let told = c .before .before .before in
+    judges (let told = c .before .before .before in
     let a = told .before .before .before .args in
-    sym (last-holds _ _ _ (sym (told .before .before .check .ensures) ∙ told .enum-told .given .1) (ap (λ (b : Bool). ltb (a .span .len) (a .from + a .count) || b) (lt-ltb (a .span .len) (a .to + a .count) (omega arith)) ∙ or-true (ltb (a .span .len) (a .from + a .count))))
+    sym (last-holds _ _ _ (sym (judged (told .before .before .check .ensures)) ∙ told .enum-told .given .1) (ap (λ (b : Bool). ltb (a .span .len) (a .from + a .count) || b) (lt-ltb (a .span .len) (a .to + a .count) (omega arith)) ∙ or-true (ltb (a .span .len) (a .from + a .count)))))
 
 returns-4 : tie.Need-returns-4
 unfolding insideCases
-returns-4 c = sym (stops _ _ (sym (c .before .before .before .check .ensures) ∙ c .before .one .given .1))
+returns-4 c = judges (sym (stops _ _ (sym (judged (c .before .before .before .check .ensures)) ∙ c .before .one .given .1)))
 
 returns-5 : tie.Need-returns-5
 unfolding insideCases
 returns-5 c =
-    let told = c .before .before .before in
+    judges (let told = c .before .before .before in
     let a = told .before .before .before .args in
-    sym (last-clear _ _ _ (sym (told .before .before .check .ensures) ∙ told .enum-told .given .1) (ap₂ _||_ (le-ltb (a .span .len) (a .from + a .count) (omega arith)) (le-ltb (a .span .len) (a .to + a .count) (omega arith))))
+    sym (last-clear _ _ _ (sym (judged (told .before .before .check .ensures)) ∙ told .enum-told .given .1) (ap₂ _||_ (le-ltb (a .span .len) (a .from + a .count) (omega arith)) (le-ltb (a .span .len) (a .to + a .count) (omega arith)))))
 
 pub check-move-spec : {M : Type 1} → statement M
 check-move-spec =

@@ -5,6 +5,7 @@ use Rattle.rules.specs.Refusals.{pairCases}
 use Rattle.rules.proofs.Tables.{stops, goes, last-holds, last-clear}
 use Rattle.checks.proofs.check_pair.Statement.{statement}
 use Rattle.checks.proofs.check_pair.Tie as tie
+use Rattle.rules.proofs.OneAnswer.{judged, judges}
 
 check-requires : tie.Need-check-requires
 check-requires c κs = search needs
@@ -29,32 +30,32 @@ orders-differ-requires c κs = search needs
 
 returns : tie.Need-returns
 unfolding pairCases
-returns c = sym (stops _ _ (sym (c .before .before .before .check .ensures) ∙ c .before .one .given .1))
+returns c = judges (sym (stops _ _ (sym (judged (c .before .before .before .check .ensures)) ∙ c .before .one .given .1)))
 
 returns-2 : tie.Need-returns-2
 unfolding pairCases
 returns-2 c =
-    let second = c .before .before .before in
+    judges (let second = c .before .before .before in
     let first = second .before in
-    sym (goes _ _ (sym (first .before .before .check .ensures) ∙ first .enum-told .given .1) ∙ stops _ _ (sym (second .check2 .ensures) ∙ c .before .two .given .1))
+    sym (goes _ _ (sym (judged (first .before .before .check .ensures)) ∙ first .enum-told .given .1) ∙ stops _ _ (sym (judged (second .check2 .ensures)) ∙ c .before .two .given .1)))
 
 returns-3 : tie.Need-returns-3
 unfolding pairCases
 returns-3 c =
-    let told = c .before .before in
+    judges (let told = c .before .before in
     let second = told .before .before in
     let first = second .before in
-    sym (goes _ _ (sym (first .before .before .check .ensures) ∙ first .enum-told .given .1)
-    ∙ last-holds _ _ _ (sym (second .check2 .ensures) ∙ told .enum-told2 .given .1) (sym (c .before .orders-differ .ensures) ∙ c .if1 .taken))
+    sym (goes _ _ (sym (judged (first .before .before .check .ensures)) ∙ first .enum-told .given .1)
+    ∙ last-holds _ _ _ (sym (judged (second .check2 .ensures)) ∙ told .enum-told2 .given .1) (sym (c .before .orders-differ .ensures) ∙ c .if1 .taken)))
 
 returns-4 : tie.Need-returns-4
 unfolding pairCases
 returns-4 c =
-    let told = c .before .before in
+    judges (let told = c .before .before in
     let second = told .before .before in
     let first = second .before in
-    sym (goes _ _ (sym (first .before .before .check .ensures) ∙ first .enum-told .given .1)
-    ∙ last-clear _ _ _ (sym (second .check2 .ensures) ∙ told .enum-told2 .given .1) (sym (c .before .orders-differ .ensures) ∙ c .if1 .left))
+    sym (goes _ _ (sym (judged (first .before .before .check .ensures)) ∙ first .enum-told .given .1)
+    ∙ last-clear _ _ _ (sym (judged (second .check2 .ensures)) ∙ told .enum-told2 .given .1) (sym (c .before .orders-differ .ensures) ∙ c .if1 .left)))
 
 pub check-pair-spec : {M : Type 1} → statement M
 check-pair-spec =

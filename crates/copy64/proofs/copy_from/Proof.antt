@@ -11,9 +11,10 @@ use Rattle.rules.proofs.Accepted.{Copy, fine-copy}
 use Rattle.rules.proofs.RowCalls.{copy-refused, copy-done}
 use Rattle.copy64.proofs.copy_from.Statement.{statement}
 use Rattle.copy64.proofs.copy_from.Tie as tie
+use Rattle.rules.proofs.OneAnswer.{judged}
 
 fine : (c : tie.After-enum-told) → (let a = c .before .before .before .before .before .args in verdict (copyCases 64 (length (now (a .words))) (a .span) (length (now (a .source))) (a .source-span)) ≡ Fine)
-fine c = sym (c .before .before .check-copy .ensures) ∙ c .enum-told .given .1
+fine c = sym (judged (c .before .before .check-copy .ensures)) ∙ c .enum-told .given .1
 
 held : (c : tie.After-enum-told) → (let a = c .before .before .before .before .before .args in Copy 64 (length (now (a .words))) (a .span) (length (now (a .source))) (a .source-span))
 held c = fine-copy 64 _ _ _ _ (fine c)
@@ -43,7 +44,7 @@ copy-row-requires : tie.Need-copy-row-requires
 copy-row-requires c κs = let h = held (c .before .before .before .before .before) in let p = h .pair in let l = p .left in let r = p .right in omega arith
 
 returns : tie.Need-returns
-returns c = copy-refused 64 _ _ _ _ _ (sym (c .before .before .before .check-copy .ensures) ∙ c .before .verdict .given .1) refl
+returns c = copy-refused 64 _ _ _ _ _ (sym (judged (c .before .before .before .check-copy .ensures)) ∙ c .before .verdict .given .1) refl
 
 same-length : tie.Need-same-length
 same-length c = search needs

@@ -12,9 +12,10 @@ use Rattle.rules.proofs.Accepted.{Pair, fine-pair}
 use Rattle.rules.proofs.RowCalls.{equal-refused, equal-lengths, equal-bits}
 use Rattle.equal8.proofs.equal.Statement.{statement}
 use Rattle.equal8.proofs.equal.Tie as tie
+use Rattle.rules.proofs.OneAnswer.{judged}
 
 fine : (c : tie.After-enum-told) → (let a = c .before .before .before .before .before .args in verdict (pairCases 8 (length (now (a .left))) (a .left-span) (length (now (a .right))) (a .right-span)) ≡ Fine)
-fine c = sym (c .before .before .check-pair .ensures) ∙ c .enum-told .given .1
+fine c = sym (judged (c .before .before .check-pair .ensures)) ∙ c .enum-told .given .1
 
 held : (c : tie.After-enum-told) → (let a = c .before .before .before .before .before .args in Pair 8 (length (now (a .left))) (a .left-span) (length (now (a .right))) (a .right-span))
 held c = fine-pair 8 _ _ _ _ (fine c)
@@ -50,7 +51,7 @@ equal-row-requires : tie.Need-equal-row-requires
 equal-row-requires c κs = let h = held (c .before .before .before .before .before .before .before) in let l = h .left in let r = h .right in omega arith
 
 returns-2 : tie.Need-returns-2
-returns-2 c = equal-refused 8 _ _ _ _ _ (sym (c .before .before .before .check-pair .ensures) ∙ c .before .verdict .given .1)
+returns-2 c = equal-refused 8 _ _ _ _ _ (sym (judged (c .before .before .before .check-pair .ensures)) ∙ c .before .verdict .given .1)
 
 returns-3 : tie.Need-returns-3
 returns-3 c =

@@ -14,9 +14,10 @@ use Rattle.rules.proofs.Accepted.{Bit, fine-bit}
 use Rattle.rules.proofs.SingleBit.{read-refused, read-piece}
 use Rattle.field64.proofs.read_bit.Statement.{statement}
 use Rattle.field64.proofs.read_bit.Tie as tie
+use Rattle.rules.proofs.OneAnswer.{judged}
 
 fine : (c : tie.After-enum-told) → (let a = c .before .before .before .before .args in verdict (bitCases 64 (length (now (a .words))) (a .span) (a .index)) ≡ Fine)
-fine c = sym (c .before .before .check-bit .ensures) ∙ c .enum-told .given .1
+fine c = sym (judged (c .before .before .check-bit .ensures)) ∙ c .enum-told .given .1
 
 held : (c : tie.After-enum-told) → (let a = c .before .before .before .before .args in Bit 64 (length (now (a .words))) (a .span) (a .index))
 held c = fine-bit 64 _ _ _ (fine c)
@@ -40,7 +41,7 @@ piece-at-requires : tie.Need-piece-at-requires
 piece-at-requires c κs = let h = held (c .before .before) in (omega arith, omega arith, h .word-in)
 
 returns : tie.Need-returns
-returns c = read-refused 64 _ _ _ _ (sym (c .before .before .before .check-bit .ensures) ∙ c .before .verdict .given .1)
+returns c = read-refused 64 _ _ _ _ (sym (judged (c .before .before .before .check-bit .ensures)) ∙ c .before .verdict .given .1)
 
 returns-2 : tie.Need-returns-2
 returns-2 c = read-piece 64 _ _ _ (fine (c .before .before .before)) (c .piece-at .ensures .0 Le)

@@ -12,9 +12,10 @@ use Rattle.rules.proofs.Accepted.{Load, fine-load}
 use Rattle.rules.proofs.FieldCalls.{load-refused, load-done}
 use Rattle.field8.proofs.load.Statement.{statement}
 use Rattle.field8.proofs.load.Tie as tie
+use Rattle.rules.proofs.OneAnswer.{judged}
 
 fine : (c : tie.After-enum-told) → (let a = c .before .before .before .before .args in verdict (loadCases 8 (length (now (a .words))) (a .span) (a .k)) ≡ Fine)
-fine c = sym (c .before .before .check-load .ensures) ∙ c .enum-told .given .1
+fine c = sym (judged (c .before .before .check-load .ensures)) ∙ c .enum-told .given .1
 
 held : (c : tie.After-enum-told) → (let a = c .before .before .before .before .args in Load 8 (length (now (a .words))) (a .span) (a .k))
 held c = fine-load 8 _ _ _ (fine c)
@@ -39,7 +40,7 @@ of-bits-requires c κs =
     (omega arith, omega arith, omega (arith, c .load-by .ensures .1, pow-pos (a .span .len), pow-mono (z .fitting)))
 
 returns : tie.Need-returns
-returns c = load-refused 8 _ _ _ _ _ (sym (c .before .before .before .check-load .ensures) ∙ c .before .verdict .given .1)
+returns c = load-refused 8 _ _ _ _ _ (sym (judged (c .before .before .before .check-load .ensures)) ∙ c .before .verdict .given .1)
 
 returns-2 : tie.Need-returns-2
 unfolding start

@@ -12,9 +12,10 @@ use Rattle.rules.proofs.Accepted.{Strict, fine-strict}
 use Rattle.rules.proofs.FieldCalls.{strict-refused, strict-done}
 use Rattle.field8.proofs.store_strict.Statement.{statement}
 use Rattle.field8.proofs.store_strict.Tie as tie
+use Rattle.rules.proofs.OneAnswer.{judged}
 
 fine : (c : tie.After-enum-told) → (let a = c .before .before .before .before .args in verdict (strictCases 8 (length (now (a .words))) (a .span) (a .k) (a .sign) (whole (a .value))) ≡ Fine)
-fine c = sym (c .before .before .check-strict .ensures) ∙ c .enum-told .given .1
+fine c = sym (judged (c .before .before .check-strict .ensures)) ∙ c .enum-told .given .1
 
 held : (c : tie.After-enum-told) → (let a = c .before .before .before .before .args in Strict 8 (length (now (a .words))) (a .span) (a .k) (a .sign) (whole (a .value)))
 held c = fine-strict 8 _ _ _ _ _ (fine c)
@@ -35,7 +36,7 @@ store-by-requires : tie.Need-store-by-requires
 store-by-requires c κs = let h = held (c .before .before) in let i = h .lies in let z = h .fitted .valued .sized in (i .starts, omega arith, omega arith, i .ends)
 
 returns : tie.Need-returns
-returns c = strict-refused 8 _ _ _ _ _ _ (sym (c .before .before .before .check-strict .ensures) ∙ c .before .verdict .given .1) refl
+returns c = strict-refused 8 _ _ _ _ _ _ (sym (judged (c .before .before .before .check-strict .ensures)) ∙ c .before .verdict .given .1) refl
 
 same-length : tie.Need-same-length
 same-length c = search needs

@@ -15,9 +15,10 @@ use Rattle.rules.specs.Fields.{storeOf}
 use Rattle.rules.proofs.SingleBit.{write-refused, write-done, write-piece}
 use Rattle.field8.proofs.write_bit.Statement.{statement}
 use Rattle.field8.proofs.write_bit.Tie as tie
+use Rattle.rules.proofs.OneAnswer.{judged}
 
 fine : (c : tie.After-enum-told) → (let a = c .before .before .before .before .args in verdict (bitCases 8 (length (now (a .words))) (a .span) (a .index)) ≡ Fine)
-fine c = sym (c .before .before .check-bit .ensures) ∙ c .enum-told .given .1
+fine c = sym (judged (c .before .before .check-bit .ensures)) ∙ c .enum-told .given .1
 
 held : (c : tie.After-enum-told) → (let a = c .before .before .before .before .args in Bit 8 (length (now (a .words))) (a .span) (a .index))
 held c = fine-bit 8 _ _ _ (fine c)
@@ -44,7 +45,7 @@ put-piece-requires : tie.Need-put-piece-requires
 put-piece-requires c κs = let h = held (c .before .before .before .before) in (omega arith, omega arith, h .word-in)
 
 returns : tie.Need-returns
-returns c = write-refused 8 _ _ _ _ _ (sym (c .before .before .before .check-bit .ensures) ∙ c .before .verdict .given .1) refl
+returns c = write-refused 8 _ _ _ _ _ (sym (judged (c .before .before .before .check-bit .ensures)) ∙ c .before .verdict .given .1) refl
 
 same-length : tie.Need-same-length
 same-length c = search needs

@@ -11,9 +11,10 @@ use Rattle.rules.proofs.Accepted.{Move, fine-move}
 use Rattle.rules.proofs.RowCalls.{inside-refused, inside-done}
 use Rattle.inside64.proofs.copy_within.Statement.{statement}
 use Rattle.inside64.proofs.copy_within.Tie as tie
+use Rattle.rules.proofs.OneAnswer.{judged}
 
 fine : (c : tie.After-enum-told) → (let a = c .before .before .before .before .args in verdict (insideCases 64 (length (now (a .words))) (a .span) (a .start) (a .count) (a .destination)) ≡ Fine)
-fine c = sym (c .before .before .check-move .ensures) ∙ c .enum-told .given .1
+fine c = sym (judged (c .before .before .check-move .ensures)) ∙ c .enum-told .given .1
 
 held : (c : tie.After-enum-told) → (let a = c .before .before .before .before .args in Move 64 (length (now (a .words))) (a .span) (a .start) (a .count) (a .destination))
 held c = fine-move 64 _ _ _ _ _ (fine c)
@@ -43,7 +44,7 @@ move-row-requires : tie.Need-move-row-requires
 move-row-requires c κs = let h = held (c .before .before .before) in let l = h .lies in omega arith
 
 returns : tie.Need-returns
-returns c = inside-refused 64 _ _ _ _ _ _ (sym (c .before .before .before .check-move .ensures) ∙ c .before .verdict .given .1) refl
+returns c = inside-refused 64 _ _ _ _ _ _ (sym (judged (c .before .before .before .check-move .ensures)) ∙ c .before .verdict .given .1) refl
 
 same-length : tie.Need-same-length
 same-length c = search needs

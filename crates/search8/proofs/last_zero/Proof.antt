@@ -5,6 +5,7 @@ use Rattle.rules.proofs.Tables.{fine-inside}
 use Rattle.rules.proofs.SearchAnswers.{last-refused, answers-last}
 use Rattle.search8.proofs.last_zero.Statement.{statement}
 use Rattle.search8.proofs.last_zero.Tie as tie
+use Rattle.rules.proofs.OneAnswer.{judged}
 
 checked-requires : tie.Need-checked-requires
 checked-requires c κs = search needs
@@ -17,7 +18,7 @@ enum-told c = search needs
 
 last-in-row-requires : tie.Need-last-in-row-requires
 last-in-row-requires c κs =
-    let p = fine-inside 8 _ _ (sym (c .before .before .checked .ensures) ∙ c .enum-told .given .1) in
+    let p = fine-inside 8 _ _ (sym (judged (c .before .before .checked .ensures)) ∙ c .enum-told .given .1) in
     (p .starts, p .ends, p .few)
 
 last-answer-requires : tie.Need-last-answer-requires
@@ -27,14 +28,14 @@ returns : tie.Need-returns
 returns c =
     let at-check = c .before .before .before in
     let a = at-check .before .before .args in
-    last-refused 8 0 (a .span) (a .words .now) (sym (at-check .checked .ensures) ∙ c .before .verdict .given .1)
+    last-refused 8 0 (a .span) (a .words .now) (sym (judged (at-check .checked .ensures)) ∙ c .before .verdict .given .1)
 
 returns-2 : tie.Need-returns-2
 returns-2 c =
     let at-row = c .before in
     let at-check = at-row .before .before .before in
     let a = at-check .before .before .args in
-    answers-last 8 0 (a .span) (a .words .now) (sym (at-check .checked .ensures) ∙ at-row .before .enum-told .given .1) (at-row .last-in-row .ensures) (c .last-answer .ensures)
+    answers-last 8 0 (a .span) (a .words .now) (sym (judged (at-check .checked .ensures)) ∙ at-row .before .enum-told .given .1) (at-row .last-in-row .ensures) (c .last-answer .ensures)
 
 pub last-zero-spec : {M : Type 1} → statement M
 last-zero-spec =

@@ -11,9 +11,10 @@ use Rattle.rules.proofs.Accepted.{Copy, fine-copy}
 use Rattle.rules.proofs.RowCalls.{swap-refused, swap-done}
 use Rattle.swap8.proofs.swap.Statement.{statement}
 use Rattle.swap8.proofs.swap.Tie as tie
+use Rattle.rules.proofs.OneAnswer.{judged}
 
 fine : (c : tie.After-enum-told) → (let a = c .before .before .before .before .before .args in verdict (copyCases 8 (length (now (a .left))) (a .left-span) (length (now (a .right))) (a .right-span)) ≡ Fine)
-fine c = sym (c .before .before .check-copy .ensures) ∙ c .enum-told .given .1
+fine c = sym (judged (c .before .before .check-copy .ensures)) ∙ c .enum-told .given .1
 
 held : (c : tie.After-enum-told) → (let a = c .before .before .before .before .before .args in Copy 8 (length (now (a .left))) (a .left-span) (length (now (a .right))) (a .right-span))
 held c = fine-copy 8 _ _ _ _ (fine c)
@@ -43,7 +44,7 @@ swap-row-requires : tie.Need-swap-row-requires
 swap-row-requires c κs = let h = held (c .before .before .before .before .before .before) in let p = h .pair in let l = p .left in let r = p .right in omega arith
 
 returns : tie.Need-returns
-returns c = swap-refused 8 _ _ _ _ _ (sym (c .before .before .before .check-copy .ensures) ∙ c .before .verdict .given .1)
+returns c = swap-refused 8 _ _ _ _ _ (sym (judged (c .before .before .before .check-copy .ensures)) ∙ c .before .verdict .given .1)
 
 same-length : tie.Need-same-length
 same-length c = search needs

@@ -6,6 +6,7 @@ use Rattle.rules.specs.Refusals.{bitCases}
 use Rattle.rules.proofs.Tables.{stops, last-holds, last-clear}
 use Rattle.pieces.proofs.refusals.check_bit.Statement.{statement}
 use Rattle.pieces.proofs.refusals.check_bit.Tie as tie
+use Rattle.rules.proofs.OneAnswer.{judged, judges}
 
 check-requires : tie.Need-check-requires
 check-requires c κs = search needs
@@ -18,15 +19,15 @@ enum-told c = search needs
 
 returns : tie.Need-returns
 unfolding bitCases
-returns c = sym (stops _ _ (sym (c .before .before .before .check .ensures) ∙ c .before .verdict .given .1))
+returns c = judges (sym (stops _ _ (sym (judged (c .before .before .before .check .ensures)) ∙ c .before .verdict .given .1)))
 
 returns-2 : tie.Need-returns-2
 unfolding bitCases
-returns-2 c = sym (last-holds _ _ _ (sym (c .before .before .before .before .check .ensures) ∙ c .before .before .enum-told .given .1) (le-leb _ _ (c .if1 .taken)))
+returns-2 c = judges (sym (last-holds _ _ _ (sym (judged (c .before .before .before .before .check .ensures)) ∙ c .before .before .enum-told .given .1) (le-leb _ _ (c .if1 .taken))))
 
 returns-3 : tie.Need-returns-3
 unfolding bitCases
-returns-3 c = sym (last-clear _ _ _ (sym (c .before .before .before .before .check .ensures) ∙ c .before .before .enum-told .given .1) (lt-leb _ _ (c .if1 .left)))
+returns-3 c = judges (sym (last-clear _ _ _ (sym (judged (c .before .before .before .before .check .ensures)) ∙ c .before .before .enum-told .given .1) (lt-leb _ _ (c .if1 .left))))
 
 pub check-bit-spec : {M : Type 1} → statement M
 check-bit-spec =

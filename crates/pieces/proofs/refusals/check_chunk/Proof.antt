@@ -9,6 +9,7 @@ use Rattle.rules.proofs.Accepted.{one-of}
 use Rattle.rules.proofs.Begun.{Begun, fine-begun, within-fine, across-fine, head-refused, end-refused}
 use Rattle.pieces.proofs.refusals.check_chunk.Statement.{statement}
 use Rattle.pieces.proofs.refusals.check_chunk.Tie as tie
+use Rattle.rules.proofs.OneAnswer.{judges}
 
 begun : (c : tie.Else1) → (let a = c .before .before .args in Begun (a .lent) (a .span .word) (a .span .len) (a .k))
 begun c = c .before .is-begun .ensures .0 (not-false (c .before .is-begun .result) (c .if1 .left))
@@ -23,25 +24,25 @@ reason-requires : tie.Need-reason-requires
 reason-requires c κs = λ e. c .before .is-begun .ensures .1 (not-true (c .before .is-begun .result) (c .if1 .taken)) (fine-begun _ _ _ _ e)
 
 returns : tie.Need-returns
-returns c = sym (c .reason .ensures)
+returns c = judges (sym (c .reason .ensures))
 
 sub-if2 : tie.Need-sub-if2
 sub-if2 c = small (c .before)
 
 returns-2 : tie.Need-returns-2
-returns-2 c = let e = c .before .before in let l = small e in sym (within-fine _ _ _ _ (begun e) (omega arith))
+returns-2 c = judges (let e = c .before .before in let l = small e in sym (within-fine _ _ _ _ (begun e) (omega arith)))
 
 returns-3 : tie.Need-returns-3
-returns-3 c = let e = c .before .before .before in sym (head-refused _ _ _ _ (begun e) (omega arith))
+returns-3 c = judges (let e = c .before .before .before in sym (head-refused _ _ _ _ (begun e) (omega arith)))
 
 add-if4 : tie.Need-add-if4
 add-if4 c = let b = begun (c .before .before .before .before) in omega (arith, b .first, b .few)
 
 returns-4 : tie.Need-returns-4
-returns-4 c = let e = c .before .before .before .before .before in let l = small e in sym (end-refused _ _ _ _ (begun e) (omega arith) (omega arith) (omega arith))
+returns-4 c = judges (let e = c .before .before .before .before .before in let l = small e in sym (end-refused _ _ _ _ (begun e) (omega arith) (omega arith) (omega arith)))
 
 returns-5 : tie.Need-returns-5
-returns-5 c = let e = c .before .before .before .before .before in let l = small e in sym (across-fine _ _ _ _ (begun e) (omega arith) (omega arith) (omega arith))
+returns-5 c = judges (let e = c .before .before .before .before .before in let l = small e in sym (across-fine _ _ _ _ (begun e) (omega arith) (omega arith) (omega arith)))
 
 pub check-chunk-spec : {M : Type 1} → statement M
 check-chunk-spec =

@@ -9,9 +9,10 @@ use Rattle.rules.proofs.Accepted.{fine-load}
 use Rattle.rules.proofs.FieldCalls.{store-stops, store-refused-8, store-fine}
 use Rattle.pieces.proofs.refusals.check_store.Statement.{statement}
 use Rattle.pieces.proofs.refusals.check_store.Tie as tie
+use Rattle.rules.proofs.OneAnswer.{judged, judges}
 
 fine : (c : tie.After-enum-told) → (let a = c .before .before .before .args in verdict (loadCases (bits (a .width)) (a .lent) (a .span) (a .k)) ≡ Fine)
-fine c = sym (c .before .before .check-load .ensures) ∙ c .enum-told .given .1
+fine c = sym (judged (c .before .before .check-load .ensures)) ∙ c .enum-told .given .1
 
 check-load-requires : tie.Need-check-load-requires
 check-load-requires c κs = search needs
@@ -26,13 +27,13 @@ is-integer-requires : tie.Need-is-integer-requires
 is-integer-requires c κs = let z = fine-load _ _ _ _ (fine c) .sized in (omega arith, z .size)
 
 returns : tie.Need-returns
-returns c = sym (store-stops _ _ _ _ _ _ (sym (c .before .before .before .check-load .ensures) ∙ c .before .verdict .given .1))
+returns c = judges (sym (store-stops _ _ _ _ _ _ (sym (judged (c .before .before .before .check-load .ensures)) ∙ c .before .verdict .given .1)))
 
 returns-2 : tie.Need-returns-2
-returns-2 c = sym (store-fine _ _ _ _ _ _ (fine (c .before .before)) (sym (c .before .is-integer .ensures) ∙ c .if1 .taken))
+returns-2 c = judges (sym (store-fine _ _ _ _ _ _ (fine (c .before .before)) (sym (c .before .is-integer .ensures) ∙ c .if1 .taken)))
 
 returns-3 : tie.Need-returns-3
-returns-3 c = sym (store-refused-8 _ _ _ _ _ _ (fine (c .before .before)) (sym (c .before .is-integer .ensures) ∙ c .if1 .left))
+returns-3 c = judges (sym (store-refused-8 _ _ _ _ _ _ (fine (c .before .before)) (sym (c .before .is-integer .ensures) ∙ c .if1 .left)))
 
 pub check-store-spec : {M : Type 1} → statement M
 check-store-spec =

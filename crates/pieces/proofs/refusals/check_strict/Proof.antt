@@ -5,6 +5,7 @@ use Rattle.rules.specs.Refusals.{strictCases}
 use Rattle.rules.proofs.Tables.{stops, goes}
 use Rattle.pieces.proofs.refusals.check_strict.Statement.{statement}
 use Rattle.pieces.proofs.refusals.check_strict.Tie as tie
+use Rattle.rules.proofs.OneAnswer.{judged, judges}
 
 check-requires : tie.Need-check-requires
 check-requires c κs = search needs
@@ -20,11 +21,11 @@ check-fit-requires c κs = search needs
 
 returns : tie.Need-returns
 unfolding strictCases
-returns c = sym (stops _ _ (sym (c .before .before .before .check .ensures) ∙ c .before .verdict .given .1))
+returns c = judges (sym (stops _ _ (sym (judged (c .before .before .before .check .ensures)) ∙ c .before .verdict .given .1)))
 
 returns-2 : tie.Need-returns-2
 unfolding strictCases
-returns-2 c = c .check-fit .ensures ∙ sym (goes _ _ (sym (c .before .before .before .check .ensures) ∙ c .before .enum-told .given .1))
+returns-2 c = judges (judged (c .check-fit .ensures) ∙ sym (goes _ _ (sym (judged (c .before .before .before .check .ensures)) ∙ c .before .enum-told .given .1)))
 
 pub check-strict-spec : {M : Type 1} → statement M
 check-strict-spec =

@@ -5,6 +5,7 @@ use Rattle.rules.specs.Refusals.{loadCases}
 use Rattle.rules.proofs.Tables.{stops, goes}
 use Rattle.pieces.proofs.refusals.reason.Statement.{statement}
 use Rattle.pieces.proofs.refusals.reason.Tie as tie
+use Rattle.rules.proofs.OneAnswer.{judged}
 
 check-requires : tie.Need-check-requires
 check-requires c κs = search needs
@@ -26,15 +27,15 @@ enum-told-2 c = search needs
 
 returns : tie.Need-returns
 unfolding loadCases
-returns c = stops _ _ (sym (c .before .before .before .check .ensures) ∙ c .before .verdict .given .1)
+returns c = stops _ _ (sym (judged (c .before .before .before .check .ensures)) ∙ c .before .verdict .given .1)
 
 returns-2 : tie.Need-returns-2
 unfolding loadCases
-returns-2 c = let f = c .before .before .before in goes _ _ (sym (f .before .before .before .check .ensures) ∙ f .before .enum-told .given .1) ∙ sym (f .check-field .ensures) ∙ c .before .rest .given .1
+returns-2 c = let f = c .before .before .before in goes _ _ (sym (judged (f .before .before .before .check .ensures)) ∙ f .before .enum-told .given .1) ∙ sym (judged (f .check-field .ensures)) ∙ c .before .rest .given .1
 
 returns-3 : tie.Need-returns-3
 unfolding loadCases
-returns-3 c = let f = c .before .before in absurd (f .before .before .before .before .pre (goes _ _ (sym (f .before .before .before .check .ensures) ∙ f .before .enum-told .given .1) ∙ sym (f .check-field .ensures) ∙ c .enum-told2 .given .1))
+returns-3 c = let f = c .before .before in absurd (f .before .before .before .before .pre (goes _ _ (sym (judged (f .before .before .before .check .ensures)) ∙ f .before .enum-told .given .1) ∙ sym (judged (f .check-field .ensures)) ∙ c .enum-told2 .given .1))
 
 pub reason-spec : {M : Type 1} → statement M
 reason-spec =

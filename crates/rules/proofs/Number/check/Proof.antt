@@ -9,9 +9,10 @@ use Rattle.rules.specs.Types.{Fine}
 use Rattle.rules.specs.Refusals.{verdict, fieldCases, valueCases}
 use Rattle.rules.proofs.Tables.{stops, last-holds, last-clear}
 use Rattle.rules.proofs.Accepted.{fine-sized}
+use Rattle.rules.proofs.OneAnswer.{judged, judges}
 
 fine : (c : tie.After-enum-told) → verdict (fieldCases (c .before .before .before .args .k) (c .before .before .before .args .len)) ≡ Fine
-fine c = sym (c .before .before .check-field .ensures) ∙ c .enum-told .given .1
+fine c = sym (judged (c .before .before .check-field .ensures)) ∙ c .enum-told .given .1
 
 check-field-requires : tie.Need-check-field-requires
 check-field-requires c κs = search needs
@@ -27,15 +28,15 @@ is-integer-requires c κs = let s = fine-sized _ _ (fine c) in (omega arith, ome
 
 returns : tie.Need-returns
 unfolding valueCases
-returns c = sym (stops _ _ (sym (c .before .before .before .check-field .ensures) ∙ c .before .verdict .given .1))
+returns c = judges (sym (stops _ _ (sym (judged (c .before .before .before .check-field .ensures)) ∙ c .before .verdict .given .1)))
 
 returns-2 : tie.Need-returns-2
 unfolding valueCases
-returns-2 c = sym (last-clear _ _ _ (fine (c .before .before)) (ap not (sym (c .before .is-integer .ensures) ∙ c .if1 .taken)))
+returns-2 c = judges (sym (last-clear _ _ _ (fine (c .before .before)) (ap not (sym (c .before .is-integer .ensures) ∙ c .if1 .taken))))
 
 returns-3 : tie.Need-returns-3
 unfolding valueCases
-returns-3 c = sym (last-holds _ _ _ (fine (c .before .before)) (ap not (sym (c .before .is-integer .ensures) ∙ c .if1 .left)))
+returns-3 c = judges (sym (last-holds _ _ _ (fine (c .before .before)) (ap not (sym (c .before .is-integer .ensures) ∙ c .if1 .left))))
 
 pub check-spec : {M : Type 1} → statement M
 check-spec =

@@ -10,9 +10,10 @@ use Rattle.rules.specs.Fields.{whole}
 use Rattle.rules.specs.Refusals.{verdict, valueCases, fittingCases}
 use Rattle.rules.proofs.Tables.{stops, last-holds, last-clear}
 use Rattle.rules.proofs.Accepted.{fine-valued}
+use Rattle.rules.proofs.OneAnswer.{judged, judges}
 
 fine : (c : tie.After-enum-told) → verdict ((let a = c .before .before .before .args in valueCases (a .k) (a .len) (a .sign) (whole (a .self)))) ≡ Fine
-fine c = sym (c .before .before .check .ensures) ∙ c .enum-told .given .1
+fine c = sym (judged (c .before .before .check .ensures)) ∙ c .enum-told .given .1
 
 check-requires : tie.Need-check-requires
 check-requires c κs = search needs
@@ -28,15 +29,15 @@ fits-requires c κs = let v = fine-valued _ _ _ _ (fine c) in let s = v .sized i
 
 returns : tie.Need-returns
 unfolding fittingCases
-returns c = sym (stops _ _ (sym (c .before .before .before .check .ensures) ∙ c .before .verdict .given .1))
+returns c = judges (sym (stops _ _ (sym (judged (c .before .before .before .check .ensures)) ∙ c .before .verdict .given .1)))
 
 returns-2 : tie.Need-returns-2
 unfolding fittingCases
-returns-2 c = sym (last-clear _ _ _ (fine (c .before .before)) (ap not (sym (c .before .fits2 .ensures) ∙ c .if1 .taken)))
+returns-2 c = judges (sym (last-clear _ _ _ (fine (c .before .before)) (ap not (sym (c .before .fits2 .ensures) ∙ c .if1 .taken))))
 
 returns-3 : tie.Need-returns-3
 unfolding fittingCases
-returns-3 c = sym (last-holds _ _ _ (fine (c .before .before)) (ap not (sym (c .before .fits2 .ensures) ∙ c .if1 .left)))
+returns-3 c = judges (sym (last-holds _ _ _ (fine (c .before .before)) (ap not (sym (c .before .fits2 .ensures) ∙ c .if1 .left))))
 
 pub check-fit-spec : {M : Type 1} → statement M
 check-fit-spec =

@@ -13,9 +13,10 @@ use Rattle.rules.specs.Calls.{a-number, lowBitsAnswer}
 use Rattle.rules.proofs.Bit.{same-low}
 use Rattle.rules.proofs.Accepted.{Valued, fine-valued}
 use Rattle.rules.proofs.Wordless.{said-refused, said-fine, low-part}
+use Rattle.rules.proofs.OneAnswer.{judged}
 
 fine : (c : tie.After-enum-told) → (let a = c .before .before .before .args in verdict (valueCases (a .k) (a .len) (a .sign) (whole (a .self))) ≡ Fine)
-fine c = sym (c .before .before .check .ensures) ∙ c .enum-told .given .1
+fine c = sym (judged (c .before .before .check .ensures)) ∙ c .enum-told .given .1
 
 accepted : (c : tie.After-enum-told) → (let a = c .before .before .before .args in Valued (a .k) (a .len) (a .sign) (whole (a .self)))
 accepted c = fine-valued _ _ _ _ (fine c)
@@ -37,7 +38,7 @@ low-ones-requires c κs = let v = accepted (c .before) in let s = v .sized in om
 
 returns : tie.Need-returns
 unfolding lowBitsAnswer
-returns c = said-refused _ (sym (c .before .before .before .check .ensures) ∙ c .before .verdict .given .1)
+returns c = said-refused _ (sym (judged (c .before .before .before .check .ensures)) ∙ c .before .verdict .given .1)
 
 returns-2 : tie.Need-returns-2
 unfolding lowBitsAnswer

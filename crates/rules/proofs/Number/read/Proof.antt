@@ -12,9 +12,10 @@ use Rattle.rules.specs.Refusals.{verdict, fieldCases}
 use Rattle.rules.specs.Calls.{a-number, readAnswer}
 use Rattle.rules.proofs.Accepted.{fine-sized}
 use Rattle.rules.proofs.Wordless.{said-refused, said-fine, low-part}
+use Rattle.rules.proofs.OneAnswer.{judged}
 
 fine : (c : tie.After-enum-told) → verdict (fieldCases (c .before .before .before .args .k) (c .before .before .before .args .len)) ≡ Fine
-fine c = sym (c .before .before .check-field .ensures) ∙ c .enum-told .given .1
+fine c = sym (judged (c .before .before .check-field .ensures)) ∙ c .enum-told .given .1
 
 check-field-requires : tie.Need-check-field-requires
 check-field-requires c κs = search needs
@@ -33,7 +34,7 @@ of-bits-requires c κs = let s = fine-sized _ _ (fine (c .before)) in (omega ari
 
 returns : tie.Need-returns
 unfolding readAnswer
-returns c = said-refused _ (sym (c .before .before .before .check-field .ensures) ∙ c .before .verdict .given .1)
+returns c = said-refused _ (sym (judged (c .before .before .before .check-field .ensures)) ∙ c .before .verdict .given .1)
 
 returns-2 : tie.Need-returns-2
 unfolding readAnswer

@@ -6,6 +6,7 @@ use mathlib.Core.Path.{sym, _∙_}
 use borrow.Author.Tests.{lt-ltb, le-ltb}
 use Rattle.rules.specs.Refusals.{splitCases}
 use Rattle.rules.proofs.Tables.{stops, last-holds, last-clear}
+use Rattle.rules.proofs.OneAnswer.{judged, judges}
 
 check-requires : tie.Need-check-requires
 check-requires c κs = search needs
@@ -18,15 +19,15 @@ enum-told c = search needs
 
 returns : tie.Need-returns
 unfolding splitCases
-returns c = sym (stops _ _ (sym (c .before .before .before .check .ensures) ∙ c .before .verdict .given .1))
+returns c = judges (sym (stops _ _ (sym (judged (c .before .before .before .check .ensures)) ∙ c .before .verdict .given .1)))
 
 returns-2 : tie.Need-returns-2
 unfolding splitCases
-returns-2 c = sym (last-holds _ _ _ (sym (c .before .before .before .before .check .ensures) ∙ c .before .before .enum-told .given .1) (lt-ltb _ _ (c .if1 .taken)))
+returns-2 c = judges (sym (last-holds _ _ _ (sym (judged (c .before .before .before .before .check .ensures)) ∙ c .before .before .enum-told .given .1) (lt-ltb _ _ (c .if1 .taken))))
 
 returns-3 : tie.Need-returns-3
 unfolding splitCases
-returns-3 c = sym (last-clear _ _ _ (sym (c .before .before .before .before .check .ensures) ∙ c .before .before .enum-told .given .1) (le-ltb _ _ (c .if1 .left)))
+returns-3 c = judges (sym (last-clear _ _ _ (sym (judged (c .before .before .before .before .check .ensures)) ∙ c .before .before .enum-told .given .1) (le-ltb _ _ (c .if1 .left))))
 
 pub check-place-spec : {M : Type 1} → statement M
 check-place-spec =

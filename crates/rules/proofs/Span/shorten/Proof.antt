@@ -5,6 +5,7 @@ use Rattle.rules.proofs.Span.shorten.Tie as tie
 use mathlib.Core.Path.{sym, ap, _∙_}
 use Rattle.rules.specs.Calls.{shortenAnswer, a-span}
 use Rattle.rules.proofs.Wordless.{said-refused, said-fine}
+use Rattle.rules.proofs.OneAnswer.{judged}
 
 check-place-requires : tie.Need-check-place-requires
 check-place-requires c κs = search needs
@@ -20,11 +21,11 @@ first-requires c κs = search needs
 
 returns : tie.Need-returns
 unfolding shortenAnswer
-returns c = said-refused _ (sym (c .before .before .before .check-place .ensures) ∙ c .before .verdict .given .1)
+returns c = said-refused _ (sym (judged (c .before .before .before .check-place .ensures)) ∙ c .before .verdict .given .1)
 
 returns-2 : tie.Need-returns-2
 unfolding shortenAnswer
-returns-2 c = said-fine (sym (c .before .before .before .check-place .ensures) ∙ c .before .enum-told .given .1) (ap a-span (c .first .ensures))
+returns-2 c = said-fine (sym (judged (c .before .before .before .check-place .ensures)) ∙ c .before .enum-told .given .1) (ap a-span (c .first .ensures))
 
 pub shorten-spec : {M : Type 1} → statement M
 shorten-spec =

@@ -5,6 +5,7 @@ use Rattle.rules.proofs.Span.split.Tie as tie
 use mathlib.Core.Path.{sym, ap₂, _∙_}
 use Rattle.rules.specs.Calls.{splitAnswer, two-spans}
 use Rattle.rules.proofs.Wordless.{said-refused, said-fine}
+use Rattle.rules.proofs.OneAnswer.{judged}
 
 check-place-requires : tie.Need-check-place-requires
 check-place-requires c κs = search needs
@@ -19,15 +20,15 @@ first-requires : tie.Need-first-requires
 first-requires c κs = search needs
 
 rest-requires : tie.Need-rest-requires
-rest-requires c κs = sym (c .before .before .before .check-place .ensures) ∙ c .before .enum-told .given .1
+rest-requires c κs = sym (judged (c .before .before .before .check-place .ensures)) ∙ c .before .enum-told .given .1
 
 returns : tie.Need-returns
 unfolding splitAnswer
-returns c = said-refused _ (sym (c .before .before .before .check-place .ensures) ∙ c .before .verdict .given .1)
+returns c = said-refused _ (sym (judged (c .before .before .before .check-place .ensures)) ∙ c .before .verdict .given .1)
 
 returns-2 : tie.Need-returns-2
 unfolding splitAnswer
-returns-2 c = said-fine (sym (c .before .before .before .before .check-place .ensures) ∙ c .before .before .enum-told .given .1) (ap₂ two-spans (c .before .first .ensures) (c .rest .ensures))
+returns-2 c = said-fine (sym (judged (c .before .before .before .before .check-place .ensures)) ∙ c .before .before .enum-told .given .1) (ap₂ two-spans (c .before .first .ensures) (c .rest .ensures))
 
 pub split-spec : {M : Type 1} → statement M
 split-spec =

@@ -15,11 +15,12 @@ use Rattle.stableply.proofs.Naming.{first-none, later-none, all-named}
 use Rattle.stableply.proofs.Crossing.{wrote-stopped, wrote}
 use Rattle.stableply.proofs.fields8.stableply8_store_strict.Statement.{statement}
 use Rattle.stableply.proofs.fields8.stableply8_store_strict.Tie as tie
+use Rattle.rules.proofs.OneAnswer.{judged}
 
 -- the verdict on the arguments as they are named
 checked : (c : tie.After-check-strict) → (let a = c .before .before .before .before .before .before .before .before .before .args in
     c .check-strict .result ≡ verdict (strictCases 8 (length (now (a .words))) (spanOf (a .order) (a .word) (a .head) (a .length)) (a .k) (signOf (a .sign)) (whole (numberOf (a .below) (a .value)))))
-checked c = rw (c .before .before .before .span-of .ensures, c .before .before .sign-of .ensures, c .before .number-of .ensures) at (c .check-strict .ensures)
+checked c = rw (c .before .before .before .span-of .ensures, c .before .before .sign-of .ensures, c .before .number-of .ensures) at (judged (c .check-strict .ensures))
 
 -- the codes name something
 named : (c : tie.After-check-strict) → (let a = c .before .before .before .before .before .before .before .before .before .args in
