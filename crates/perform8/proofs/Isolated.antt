@@ -1,21 +1,35 @@
--- The isolation theorem at the width of these words: what `perform` promises of each call of a mixture is what it speaks of. Assumes nothing.
+-- The third demand at the width of these words: of the rules, and of every run of `perform`, each step of which keeps the promise that its source
+-- states. Assumes nothing.
 use Prim.Native.Nat.{ℕ}
 use mathlib.Core.Path.{_≡_}
-use mathlib.Core.List.{List}
+use mathlib.Core.List.{List, map}
+use denote.Ref.{now}
 use lib.Dec.{lit<}
 use lib.ListN.{length}
-use Rattle.rules.specs.Bits.{bitAt}
-use Rattle.rules.specs.Calls.{Call, answer, after}
-use Rattle.rules.proofs.Parties.{Party, one, two, Of, hers, All, answers, final, mixed-answers, mixed-final}
-use Rattle.rules.proofs.Isolation.{Within, Isolated, isolation, isolation-from}
+use Rattle.rules.specs.Calls.{answer, after}
+use Rattle.rules.specs.Answers.{Gives}
+use Rattle.rules.specs.Mixtures.{Party, Of, All, Asked, Separate, Within, Isolated}
+use Rattle.rules.proofs.Isolation.{isolation}
+use Rattle.requests.specs.declared.Request.{Request}
+use Rattle.requests.specs.declared.Reply.{Reply}
+use Rattle.requests.specs.Requests.{callOf, replySays}
+use Rattle.requests.specs.Runs.{Exchange, asked, marked, unmarked, Run, Undisturbed}
+use Rattle.requests.proofs.Runs.{undisturbed}
+use Rattle.perform8.proofs.perform.Reads as perform
 
 -- each party's answers and final bits are those of its own calls alone, and unowned bits stay
-pub isolated : (ws : List ℕ) (Own : Party → ℕ → Type 0) → ((q : ℕ) → Own one q → Own two q → ⊥) → (t : List (Of Call)) → All (Within 8 (length ws) Own) t → Isolated 8 ws Own t
+pub isolated : (ws : List ℕ) (Own : Party → ℕ → Type 0) → Separate Own → (t : List (Of Asked)) → All (Within 8 (length ws) Own) t → Isolated 8 ws Own t
 isolated = isolation 8 (lit< tt)
 
--- the same from any equally long buffer that agrees on the party's positions
-pub isolated-from : (ws vs : List ℕ) → length ws ≡ length vs → (Own : Party → ℕ → Type 0) → ((q : ℕ) → Own one q → Own two q → ⊥)
-    → (t : List (Of Call)) → All (Within 8 (length ws) Own) t → (p : Party) → ((q : ℕ) → Own p q → bitAt 8 ws q ≡ bitAt 8 vs q)
-    → (hers p (mixed-answers (answer 8) (after 8) t ws) ≡ answers (answer 8) (after 8) (hers p t) vs)
-    × ((q : ℕ) → Own p q → bitAt 8 (mixed-final (answer 8) (after 8) t ws) q ≡ bitAt 8 (final (answer 8) (after 8) (hers p t) vs) q)
-isolated-from = isolation-from 8 (lit< tt)
+-- The words before, the request, the second buffer, the reply and the words after of a call of `perform` that kept its promise.
+pub data Performs : List ℕ → Request → List ℕ → Reply → List ℕ → Type 0 where
+  kept : (κs a r x : _) → perform.Post κs a r x → Performs (now (a .0)) (a .1 .1 .0) (now (a .1 .0)) r (now (x .0))
+
+promise : (ws : List ℕ) (request : Request) (other : List ℕ) (reply : Reply) (ms : List ℕ) → Performs ws request other reply ms
+    → Gives (answer 8 (callOf request other) ws) (after 8 (callOf request other) ws) (replySays reply) ms
+promise ws request other reply ms (kept κs a r x p) = p
+
+-- Whatever two parties ask of `perform`, mixed in any way, each within its own positions: neither is disturbed.
+pub run-isolated : (Own : Party → ℕ → Type 0) → Separate Own → (t : List (Of Exchange)) (ws vs : List ℕ) → All (Within 8 (length ws) Own) (map (marked asked) t)
+    → Run Performs ws (map unmarked t) vs → Undisturbed Performs 8 Own t ws vs
+run-isolated = undisturbed 8 (lit< tt) Performs promise

@@ -29,9 +29,9 @@ abbrev pub asked : Exchange → Asked
 asked (performed request other reply) = call (callOf request other)
 asked declined = no-call
 
--- the same of each party
-abbrev pub askedOf : Of Exchange → Of Asked
-askedOf (of p e) = of p (asked e)
+-- something of a party's, made into another thing of that party's
+abbrev pub marked : {A B : Type 0} → (A → B) → Of A → Of B
+marked f (of p a) = of p (f a)
 
 -- the exchanges of both parties, as they came
 abbrev pub unmarked : Of Exchange → Exchange
