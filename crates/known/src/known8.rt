@@ -1,11 +1,14 @@
 // Fields of rows of bytes, known to be Lsb0 le.
 use crate::taken::field;
+use crate::taken::mix_in;
 use crate::taken::unsigned;
 use rules::Number;
 use rules::Sign;
 use rules::Significance;
+ghost use mathlib.Core.Path.{_≡_};
+ghost use Rattle.known.specs.Known.{mixed, stored};
 
-// Loads the fields of k bits that begin at a head of a word each, and mixes their numbers.
+// Loads the fields of k bits that begin at a head of a word each, and mixes their numbers. Where heads are missing, nothing is loaded.
 #[no_mangle]
 pub extern "C" fn known8_loads(
     words: &[u8],
@@ -13,22 +16,24 @@ pub extern "C" fn known8_loads(
     heads: &[usize],
     k: usize,
     mix: &mut u64,
-) {
+)
+    ensures { λ _. ⌜ now (mix .exit) ≡ mixed 8 k (now (words .entry)) (now (places .entry)) (now (heads .entry)) (now (mix .entry)) ⌝ }
+{
+    if heads.len() < places.len() {
+        return;
+    }
     let mut mixed: u64 = 0;
     let mut i: usize = 0;
     while i < places.len() {
-        if heads.len() <= i {
-            return;
-        }
         let span = field(places[i], heads[i], k);
         let answer = field8::load(words, span, k, Significance::Le, Sign::Unsigned);
-        mixed = (mixed << 1 | mixed >> 63) ^ unsigned(answer);
+        mixed = mix_in(mixed, unsigned(answer));
         i = i + 1;
     }
     *mix = mixed;
 }
 
-// Stores a value in each of them.
+// Stores a value in each of them. Where heads are missing, nothing is stored.
 #[no_mangle]
 pub extern "C" fn known8_stores(
     words: &mut [u8],
@@ -36,12 +41,14 @@ pub extern "C" fn known8_stores(
     heads: &[usize],
     k: usize,
     value: u64,
-) {
+)
+    ensures { λ _. ⌜ now (words .exit) ≡ stored 8 k value (now (words .entry)) (now (places .entry)) (now (heads .entry)) ⌝ }
+{
+    if heads.len() < places.len() {
+        return;
+    }
     let mut i: usize = 0;
     while i < places.len() {
-        if heads.len() <= i {
-            return;
-        }
         let span = field(places[i], heads[i], k);
         field8::store(
             words,

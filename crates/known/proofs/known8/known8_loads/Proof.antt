@@ -1,22 +1,27 @@
--- `known8_loads` is safe and ends: each turn leaves a place fewer. It promises nothing.
+-- `known8_loads`. The loop's invariant: the mix is that of the fields passed; the measure is how many are left. Assumes nothing.
 use borrow.Author.Needs.{needs}
+use borrow.Author.Tests.{lt-ltb}
+use mathlib.Core.Path.{_≡_, refl}
 use Prim.Native.Nat.{_-_, _≤_}
 use native.Mathlib.Omega.{arith}
 use lib.ListN.{length}
+use Rattle.known.specs.Known.{mixAfter}
+use Rattle.known.proofs.Turns.{load-more, mixed-all}
 use Rattle.known.proofs.known8.known8_loads.Statement.{statement}
 use Rattle.known.proofs.known8.known8_loads.Tie as tie
 
 abbrev Inv-loop : tie.InvT-loop
-Inv-loop words places heads k mix mixed₀ i₀ mixed i = i ≤ length places
+Inv-loop words places heads k mix mixed₀ i₀ mixed i = (i ≤ length places) × (length places ≤ length heads) × (mixed ≡ mixAfter 8 k words places heads i)
 
 abbrev μ-loop : tie.MeasureT-loop
 μ-loop words places heads k mix mixed₀ i₀ mixed i = length places - i
 
-loop-holds : tie.Need-loop-holds Inv-loop μ-loop
-loop-holds c = omega arith
-
 returns : tie.Need-returns Inv-loop μ-loop
-returns c = search needs
+returns c = simp (lt-ltb _ _ (c .if1 .taken))
+
+loop-holds : tie.Need-loop-holds Inv-loop μ-loop
+unfolding mixAfter
+loop-holds c = (omega arith, omega arith, refl)
 
 mul-field : tie.Need-mul-field Inv-loop μ-loop
 mul-field c = omega arith
@@ -39,6 +44,9 @@ load-requires c κs = search needs
 unsigned-requires : tie.Need-unsigned-requires Inv-loop μ-loop
 unsigned-requires c κs = search needs
 
+mix-in-requires : tie.Need-mix-in-requires Inv-loop μ-loop
+mix-in-requires c κs = search needs
+
 add-i : tie.Need-add-i Inv-loop μ-loop
 add-i c = omega arith
 
@@ -46,10 +54,13 @@ loop-less : tie.Need-loop-less Inv-loop μ-loop
 loop-less c = omega arith
 
 loop-again : tie.Need-loop-again Inv-loop μ-loop
-loop-again c = omega arith
+loop-again c =
+    let at = c .before .before .before .before .before .before .before in
+    let inv = at .loop .inv in
+    (omega arith, omega arith, load-more 8 _ _ _ _ _ (inv .2) (c .before .before .before .field .ensures) (c .before .before .load .ensures) (c .before .unsigned .ensures) (c .mix-in .ensures))
 
 returns-2 : tie.Need-returns-2 Inv-loop μ-loop
-returns-2 c = search needs
+returns-2 c = let inv = c .before .loop .inv in mixed-all 8 _ _ _ _ _ _ (inv .1) (c .loop-test .left) (inv .0) (inv .2)
 
 pub known8-loads-spec : {M : Type 1} → statement M
 known8-loads-spec =
@@ -57,8 +68,8 @@ known8-loads-spec =
     (tie.spec
     Inv-loop
     μ-loop
-    loop-holds
     returns
+    loop-holds
     mul-field
     shared-slice-read-field
     mul-field-2
@@ -66,6 +77,7 @@ known8-loads-spec =
     field-requires
     load-requires
     unsigned-requires
+    mix-in-requires
     add-i
     loop-less
     loop-again

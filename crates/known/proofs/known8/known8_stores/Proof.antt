@@ -1,26 +1,27 @@
--- `known8_stores` is safe and ends: each turn leaves a place fewer. It promises nothing.
+-- `known8_stores`. The loop's invariant: the words are those that the stores of the fields passed leave; the measure is how many are left. Assumes nothing.
 use borrow.Author.Needs.{needs}
-use mathlib.Core.Path.{_≡_}
+use borrow.Author.Tests.{lt-ltb}
+use mathlib.Core.Path.{_≡_, refl}
 use Prim.Native.Nat.{_-_, _≤_}
 use native.Mathlib.Omega.{arith}
 use lib.ListN.{length}
+use Rattle.known.specs.Known.{storedAfter}
+use Rattle.known.proofs.Turns.{store-more, stored-all}
 use Rattle.known.proofs.known8.known8_stores.Statement.{statement}
 use Rattle.known.proofs.known8.known8_stores.Tie as tie
 
 abbrev Inv-loop : tie.InvT-loop
-Inv-loop words₀ places heads k value i₀ words i = (i ≤ length places) × (length words ≡ length words₀)
+Inv-loop words₀ places heads k value i₀ words i = (i ≤ length places) × (length places ≤ length heads) × (words ≡ storedAfter 8 k value words₀ places heads i) × (length words ≡ length words₀)
 
 abbrev μ-loop : tie.MeasureT-loop
 μ-loop words₀ places heads k value i₀ words i = length places - i
 
-loop-holds : tie.Need-loop-holds Inv-loop μ-loop
-loop-holds c = search needs
-
-same-length : tie.Need-same-length Inv-loop μ-loop
-same-length c = search needs
-
 returns : tie.Need-returns Inv-loop μ-loop
-returns c = search needs
+returns c = simp (lt-ltb _ _ (c .if1 .taken))
+
+loop-holds : tie.Need-loop-holds Inv-loop μ-loop
+unfolding storedAfter
+loop-holds c = (omega arith, omega arith, refl, refl)
 
 mul-field : tie.Need-mul-field Inv-loop μ-loop
 mul-field c = omega arith
@@ -47,13 +48,15 @@ loop-less : tie.Need-loop-less Inv-loop μ-loop
 loop-less c = omega arith
 
 loop-again : tie.Need-loop-again Inv-loop μ-loop
-loop-again c = search needs
+loop-again c =
+    let inv = c .before .before .before .before .before .before .before .before .loop .inv in
+    (omega arith, omega arith, store-more 8 _ _ _ _ _ _ (inv .2) (c .before .before .before .before .field .ensures) (c .before .before .store .ensures .holds), search needs)
 
-same-length-2 : tie.Need-same-length-2 Inv-loop μ-loop
-same-length-2 c = search needs
+same-length : tie.Need-same-length Inv-loop μ-loop
+same-length c = search needs
 
 returns-2 : tie.Need-returns-2 Inv-loop μ-loop
-returns-2 c = search needs
+returns-2 c = let inv = c .before .loop .inv in stored-all 8 _ _ _ _ _ _ (inv .1) (c .loop-test .left) (inv .0) (inv .2)
 
 pub known8-stores-spec : {M : Type 1} → statement M
 known8-stores-spec =
@@ -61,9 +64,8 @@ known8-stores-spec =
     (tie.spec
     Inv-loop
     μ-loop
-    loop-holds
-    same-length
     returns
+    loop-holds
     mul-field
     shared-slice-read-field
     mul-field-2
@@ -73,5 +75,5 @@ known8-stores-spec =
     add-i
     loop-less
     loop-again
-    same-length-2
+    same-length
     returns-2)
