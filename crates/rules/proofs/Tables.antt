@@ -29,36 +29,36 @@ no-index o = at-head o 8 9
 -- two spans (copy between and swap; boolean and equal), copy inside, a field that is strictly stored
 pub in-order : List Verdict
 in-order = map verdict (
-  copyCases 8 65537 (no-index Lsb0) 65537 (no-index Msb0)
-  ∷ copyCases 8 1 (no-index Lsb0) 65537 (no-index Msb0)
-  ∷ copyCases 8 1 (too-long Lsb0) 65537 (no-index Msb0)
-  ∷ copyCases 8 1 (fits-in Lsb0) 65537 (no-index Msb0)
-  ∷ copyCases 8 1 (fits-in Lsb0) 1 (no-index Msb0)
-  ∷ copyCases 8 1 (fits-in Lsb0) 1 (too-long Msb0)
-  ∷ copyCases 8 1 (fits-in Lsb0) 2 (too-long Msb0)
-  ∷ copyCases 8 1 (fits-in Lsb0) 2 (too-long Lsb0)
-  ∷ copyCases 8 1 (fits-in Lsb0) 1 (fits-in Lsb0)
-  ∷ pairCases 8 1 (too-long Lsb0) 65537 (no-index Msb0)
-  ∷ pairCases 8 1 (fits-in Lsb0) 1 (too-long Msb0)
-  ∷ pairCases 8 1 (fits-in Lsb0) 2 (too-long Msb0)
-  ∷ pairCases 8 1 (fits-in Lsb0) 2 (too-long Lsb0)
-  ∷ insideCases 8 65537 (no-index Lsb0) 1 9 1
-  ∷ insideCases 8 1 (no-index Lsb0) 1 9 1
-  ∷ insideCases 8 1 (too-long Lsb0) 1 9 1
-  ∷ insideCases 8 1 (fits-in Lsb0) 1 8 0
-  ∷ insideCases 8 1 (fits-in Lsb0) 0 8 1
-  ∷ insideCases 8 1 (fits-in Lsb0) 0xffffffffffffffff 1 0
-  ∷ insideCases 8 1 (fits-in Lsb0) 1 7 0
-  ∷ strictCases 8 65537 (no-index Lsb0) 7 Unsigned (pos 512)
-  ∷ strictCases 8 1 (no-index Lsb0) 7 Unsigned (pos 512)
-  ∷ strictCases 8 1 (too-long Lsb0) 7 Unsigned (pos 512)
-  ∷ strictCases 8 2 (too-long Lsb0) 7 Unsigned (pos 512)
-  ∷ strictCases 8 2 (too-long Lsb0) 8 Unsigned (pos 512)
-  ∷ strictCases 8 2 (fits-in Lsb0) 8 Unsigned (pos 512)
-  ∷ strictCases 8 2 (fits-in Lsb0) 16 Unsigned (pos 512)
-  ∷ strictCases 8 2 (too-long Lsb0) 16 Unsigned (pos 511)
-  ∷ []
-)
+    copyCases 8 65537 (no-index Lsb0) 65537 (no-index Msb0)
+    ∷ copyCases 8 1 (no-index Lsb0) 65537 (no-index Msb0)
+    ∷ copyCases 8 1 (too-long Lsb0) 65537 (no-index Msb0)
+    ∷ copyCases 8 1 (fits-in Lsb0) 65537 (no-index Msb0)
+    ∷ copyCases 8 1 (fits-in Lsb0) 1 (no-index Msb0)
+    ∷ copyCases 8 1 (fits-in Lsb0) 1 (too-long Msb0)
+    ∷ copyCases 8 1 (fits-in Lsb0) 2 (too-long Msb0)
+    ∷ copyCases 8 1 (fits-in Lsb0) 2 (too-long Lsb0)
+    ∷ copyCases 8 1 (fits-in Lsb0) 1 (fits-in Lsb0)
+    ∷ pairCases 8 1 (too-long Lsb0) 65537 (no-index Msb0)
+    ∷ pairCases 8 1 (fits-in Lsb0) 1 (too-long Msb0)
+    ∷ pairCases 8 1 (fits-in Lsb0) 2 (too-long Msb0)
+    ∷ pairCases 8 1 (fits-in Lsb0) 2 (too-long Lsb0)
+    ∷ insideCases 8 65537 (no-index Lsb0) 1 9 1
+    ∷ insideCases 8 1 (no-index Lsb0) 1 9 1
+    ∷ insideCases 8 1 (too-long Lsb0) 1 9 1
+    ∷ insideCases 8 1 (fits-in Lsb0) 1 8 0
+    ∷ insideCases 8 1 (fits-in Lsb0) 0 8 1
+    ∷ insideCases 8 1 (fits-in Lsb0) 0xffffffffffffffff 1 0
+    ∷ insideCases 8 1 (fits-in Lsb0) 1 7 0
+    ∷ strictCases 8 65537 (no-index Lsb0) 7 Unsigned (pos 512)
+    ∷ strictCases 8 1 (no-index Lsb0) 7 Unsigned (pos 512)
+    ∷ strictCases 8 1 (too-long Lsb0) 7 Unsigned (pos 512)
+    ∷ strictCases 8 2 (too-long Lsb0) 7 Unsigned (pos 512)
+    ∷ strictCases 8 2 (too-long Lsb0) 8 Unsigned (pos 512)
+    ∷ strictCases 8 2 (fits-in Lsb0) 8 Unsigned (pos 512)
+    ∷ strictCases 8 2 (fits-in Lsb0) 16 Unsigned (pos 512)
+    ∷ strictCases 8 2 (too-long Lsb0) 16 Unsigned (pos 511)
+    ∷ []
+    )
 
 pub refused-in-order :
     in-order

@@ -1,3 +1,4 @@
 pub mod Naming
 pub mod Crossing
 pub mod OnlyOne
+pub mod Declined
