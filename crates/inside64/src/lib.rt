@@ -93,8 +93,8 @@ fn joined_down(words: &mut [u64], order: Order, h: usize, b: usize, a: usize, k:
     }
 }
 
-// The same where word a is the one after word b. The loop speaks of word b alone: the compiler then sees which words overlap, and makes a
-// vector loop of it.
+// The same where word a is the one after word b. The loop speaks of word b alone and counts last: the compiler then sees which words
+// overlap, and makes a vector loop of it.
 fn joined_next(words: &mut [u64], order: Order, h: usize, b: usize, k: usize)
     requires { ⌜ (1 ≤ h) × (h < 64) × (b + 1 + k ≤ length (now words)) × (length (now words) ≤ 65536) ⌝ }
     ensures { λ _. ⌜ now (words .exit) ≡ moved 64 order (now (words .entry)) (b * 64 + h) ((b + 1) * 64) (k * 64) ⌝ }
@@ -129,7 +129,7 @@ fn whole_up(words: &mut [u64], order: Order, from: usize, to: usize, k: usize)
     joined_up(words, order, h, b, a, k);
 }
 
-// The same downward, where word a is the one after word b by the loop that shows it.
+// The same downward. Where word a is the one after word b, the compiler is shown so too.
 fn whole_down(words: &mut [u64], order: Order, from: usize, to: usize, k: usize)
     requires { ⌜ (1 ≤ k → to % 64 ≡ 0) × (from + k * 64 ≤ length (now words) * 64) × (to + k * 64 ≤ length (now words) * 64) × (from ≤ to) × (length (now words) ≤ 65536) ⌝ }
     ensures { λ _. ⌜ now (words .exit) ≡ moved 64 order (now (words .entry)) from to (k * 64) ⌝ }
