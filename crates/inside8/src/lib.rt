@@ -93,6 +93,20 @@ fn joined_down(words: &mut [u8], order: Order, h: usize, b: usize, a: usize, k: 
     }
 }
 
+// The same where word a is the one after word b. The loop speaks of word b alone and counts last: the compiler then sees which words
+// overlap, and makes a vector loop of it.
+fn joined_next(words: &mut [u8], order: Order, h: usize, b: usize, k: usize)
+    requires { ⌜ (1 ≤ h) × (h < 8) × (b + 1 + k ≤ length (now words)) × (length (now words) ≤ 65536) ⌝ }
+    ensures { λ _. ⌜ now (words .exit) ≡ moved 8 order (now (words .entry)) (b * 8 + h) ((b + 1) * 8) (k * 8) ⌝ }
+{
+    let mut i: usize = k;
+    while 0 < i {
+        let at = b + i;
+        words[at] = joined(order, h, words[at - 1], words[at]);
+        i = i - 1;
+    }
+}
+
 // k whole words of the destination, upward. Where word b is word a, the compiler is shown so: its loop over both is then a vector loop.
 fn whole_up(words: &mut [u8], order: Order, from: usize, to: usize, k: usize)
     requires { ⌜ (1 ≤ k → to % 8 ≡ 0) × (from + k * 8 ≤ length (now words) * 8) × (to + k * 8 ≤ length (now words) * 8) × ((to ≤ from) ⊎ (from + k * 8 ≤ to)) × (length (now words) ≤ 65536) ⌝ }
@@ -115,7 +129,7 @@ fn whole_up(words: &mut [u8], order: Order, from: usize, to: usize, k: usize)
     joined_up(words, order, h, b, a, k);
 }
 
-// The same downward, and so where word b is the one before word a.
+// The same downward. Where word a is the one after word b, the compiler is shown so too.
 fn whole_down(words: &mut [u8], order: Order, from: usize, to: usize, k: usize)
     requires { ⌜ (1 ≤ k → to % 8 ≡ 0) × (from + k * 8 ≤ length (now words) * 8) × (to + k * 8 ≤ length (now words) * 8) × (from ≤ to) × (length (now words) ≤ 65536) ⌝ }
     ensures { λ _. ⌜ now (words .exit) ≡ moved 8 order (now (words .entry)) from to (k * 8) ⌝ }
@@ -131,7 +145,7 @@ fn whole_down(words: &mut [u8], order: Order, from: usize, to: usize, k: usize)
         return;
     }
     if a == b + 1 {
-        joined_down(words, order, h, b, b + 1, k);
+        joined_next(words, order, h, b, k);
         return;
     }
     joined_down(words, order, h, b, a, k);

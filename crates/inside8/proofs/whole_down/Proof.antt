@@ -34,11 +34,8 @@ returns-2 c =
 add-if3 : tie.Need-add-if3
 add-if3 c = search needs
 
-add-joined-down : tie.Need-add-joined-down
-add-joined-down c = search needs
-
-joined-down-requires : tie.Need-joined-down-requires
-joined-down-requires c κs = search needs
+joined-next-requires : tie.Need-joined-next-requires
+joined-next-requires c κs = search needs
 
 same-length-2 : tie.Need-same-length-2
 same-length-2 c = search needs
@@ -49,10 +46,10 @@ returns-3 c =
     let start = call .before .before .before .before .before .before in
     let a = start .args in
     let z = start .pre .0 (omega arith) in
-    call .joined-down .ensures ∙ moved-at 8 (a .order) (now (a .words)) (omega arith) (omega (arith, z)) refl
+    call .joined-next .ensures ∙ moved-at 8 (a .order) (now (a .words)) (omega arith) (omega (arith, z)) refl
 
-joined-down-requires-2 : tie.Need-joined-down-requires-2
-joined-down-requires-2 c κs =
+joined-down-requires : tie.Need-joined-down-requires
+joined-down-requires c κs =
     let start = c .before .before .before .before .before in
     let z = start .pre .0 (omega arith) in
     (omega arith, omega arith, omega arith, omega (arith, z), omega (arith, z), omega arith)
@@ -66,7 +63,7 @@ returns-4 c =
     let start = call .before .before .before .before .before .before in
     let a = start .args in
     let z = start .pre .0 (omega arith) in
-    call .joined-down2 .ensures ∙ moved-at 8 (a .order) (now (a .words)) (omega arith) (omega (arith, z)) refl
+    call .joined-down .ensures ∙ moved-at 8 (a .order) (now (a .words)) (omega arith) (omega (arith, z)) refl
 
 pub whole-down-spec : {M : Type 1} → statement M
 whole-down-spec =
@@ -77,10 +74,9 @@ whole-down-spec =
     same-length
     returns-2
     add-if3
-    add-joined-down
-    joined-down-requires
+    joined-next-requires
     same-length-2
     returns-3
-    joined-down-requires-2
+    joined-down-requires
     same-length-3
     returns-4)
