@@ -48,13 +48,6 @@ module _ (W : ℕ) (o : Order) (from upto : ℕ) where
   unfolding verdict maskAnswer maskCases
   mask-given h l k e = rw (lt-leb W from h, le-ltb W upto k, le-ltb upto from l) (ap a-mask e)
 
--- the ones of a mask, moved to their lowest position in a machine word of 64 bits
-pub moved-ones : (W : ℕ) (o : Order) (f u low : ℕ) {ones : ℕ} → W ≤ 64 → f ≤ u → u ≤ W → ones ≡ 2 ^ (u - f) - 1 → low ≡ lowest W o f (u - f) → low + (u - f) ≤ 64
-    → (ones * 2 ^ low) % 2 ^ 64 ≡ mask W o f u
-moved-ones W o f u low {ones} w h l d e fits =
-    ap (λ (x : ℕ). (x * 2 ^ low) % 2 ^ 64) d ∙ shl-exact (u - f) low 64 (ones-lt (u - f)) (omega arith)
-    ∙ ap (λ (x : ℕ). (2 ^ (u - f) - 1) * 2 ^ x) e ∙ sym (mask-is W o f u h l)
-
 pub lowest-lsb0 : (W f n : ℕ) {o : Order} → o ≡ Lsb0 → f ≡ lowest W o f n
 unfolding lowest
 lowest-lsb0 W f n e = rw e
