@@ -52,6 +52,7 @@ pub mod Wordless
 pub mod Sentences
 pub mod Reading
 pub mod SingleBit
+pub mod Selectors
 pub mod FieldCalls
 pub mod RowCalls
 pub mod SearchAnswers

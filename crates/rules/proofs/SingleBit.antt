@@ -106,16 +106,6 @@ module _ (W : ℕ) (ws : List ℕ) (s : Span) (i : ℕ) where
 -- ---- the bit as a piece of its word
 
 module _ (W : ℕ) (ws : List ℕ) (s : Span) (i : ℕ) (e : verdict (bitCases W (length ws) s i) ≡ Fine) where
-  pub read-piece : {r : ℕ} → r ≡ loadOf W (s .order) Le ws ((s .word + (s .head .0 + i) / W) * W + (s .head .0 + i) % W) 1
-      → a-bit (digit (eqb r 1)) ≡ answer W (readBit s i) ws
-  read-piece q =
-      let b = fine-bit W (length ws) s i e in
-      let t = s .head .0 + i in
-      let k = s .word + t / W in
-      ap (λ (x : ℕ). a-bit (digit (eqb x 1)))
-      (q ∙ load-one W (b .wide) k (t % W) 1 (omega (arith, mod-lt t (b .wide))) (s .order) Le ws ∙ ap (λ (p : ℕ). getD ws k 0 / 2 ^ p % 2) (lowest-one W (s .order) (t % W)))
-      ∙ read-done W ws s i (position W (s .order) (t % W)) e refl
-
   pub write-piece : (v : Bool) {m : List ℕ} → m ≡ storeOf W (s .order) Le ws ((s .word + (s .head .0 + i) / W) * W + (s .head .0 + i) % W) 1 (digit v)
       → m ≡ spliced W (s .order) ws (start W s + i) 1 (λ _. digit v)
   unfolding start
