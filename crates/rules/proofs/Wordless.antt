@@ -1,18 +1,17 @@
 -- The answers of the calls without lent words, from the tests that code makes. Assumes nothing.
-use Prim.Native.Nat.{ℕ, _+_, _-_, _*_, _%_, _^_, _≤_, _<_}
+use Prim.Native.Nat.{ℕ, _-_, _%_, _^_, _≤_, _<_}
 use mathlib.Core.Path.{_≡_, sym, ap, ap₂, _∙_}
 use mathlib.Core.Bool.{or-true}
 use native.Mathlib.Omega.{arith}
 use borrow.Author.Tests.{le-leb, lt-leb, lt-ltb, le-ltb}
 use lib.Dec.{ltb}
 use lib.Bits.{bitAnd, and-mask}
-use lib.Pow.{shl-exact, ones-lt}
 use Rattle.rules.specs.Types.{Order, Lsb0, Msb0, Refusal, Verdict, Fine, Refused}
 use Rattle.rules.specs.Positions.{position, selector, mask}
 use Rattle.rules.specs.Refusals.{number, verdict, indexCases, maskCases}
 use Rattle.rules.specs.Calls.{Answer, refused, a-position, a-selector, a-mask, said, positionAnswer, selectorAnswer, maskAnswer}
 use Rattle.rules.proofs.Field.{lowest}
-use Rattle.rules.proofs.Masks.{mask-is, mask-none}
+use Rattle.rules.proofs.Masks.{mask-none}
 
 module _ (W : ℕ) (o : Order) (i : ℕ) where
   pub position-refused : W ≤ i → refused 2 ≡ positionAnswer W o i
