@@ -1,5 +1,6 @@
 // Boolean operations on rows of words of 8 bits. An operation is its truth table's number: bit 2a + b is the result for left bit a and right bit b.
 use checks::check_pair;
+use rules::Index;
 use rules::Order;
 use rules::Span;
 use rules::Verdict;
@@ -10,7 +11,6 @@ use word8::joined;
 use word8::lead;
 use word8::least;
 use word8::put;
-use word8::select;
 ghost use mathlib.Core.Path.{_≡_};
 ghost use Prim.Native.Nat.{ℕ, _+_, _-_, _*_, _/_, _%_, _≤_, _<_};
 ghost use lib.ListN.{length, getD};
@@ -20,6 +20,7 @@ ghost use Rattle.rules.specs.Rows.{applied};
 ghost use Rattle.rules.specs.Calls.{combine, answer, after};
 ghost use Rattle.rules.specs.Answers.{writeSays, Gives};
 ghost use Rattle.rules.proofs.Funnel.{funneled};
+ghost use Rattle.rules.proofs.Merged.{selected};
 ghost use Rattle.rules.proofs.Combine.{wordwise, spreadOf};
 
 // All ones where bit k of the operation's number is one, else all zeros.
@@ -32,6 +33,13 @@ fn spread(operation: u8, k: u8) -> u8
     if bit == 0 { 0 } else { ones }
 }
 
+// The bits of v where those of x are ones, else those of u.
+fn choose(x: u8, u: u8, v: u8) -> u8
+    ensures { λ r. ⌜ r ≡ selected x u v ⌝ }
+{
+    u ^ ((u ^ v) & x)
+}
+
 // Any operation on two words, by its truth table.
 fn table(operation: u8, a: u8, b: u8) -> u8
     ensures { λ r. ⌜ r ≡ wordwise 8 operation a b ⌝ }
@@ -40,9 +48,9 @@ fn table(operation: u8, a: u8, b: u8) -> u8
     let t1 = spread(operation, 1);
     let t2 = spread(operation, 2);
     let t3 = spread(operation, 3);
-    let low = select(b, t0, t1);
-    let high = select(b, t2, t3);
-    select(a, low, high)
+    let low = choose(b, t0, t1);
+    let high = choose(b, t2, t3);
+    choose(a, low, high)
 }
 
 // The operation on two words: and, or, xor, and by the truth table any other.
@@ -90,36 +98,36 @@ fn plain_cases(words: &mut [u8], operation: u8, right: &[u8])
     }
 }
 
-// Whole words with those of the right side at head h.
-fn funnel_words(words: &mut [u8], order: Order, operation: u8, right: &[u8], h: usize)
-    requires { ⌜ (1 ≤ h) × (h < 8) × (length (now words) + 1 ≤ length (now right)) ⌝ }
-    ensures { λ _. ⌜ ((k : ℕ) → k < length (now (words .entry)) → getD (now (words .exit)) k 0 ≡ wordwise 8 operation (getD (now (words .entry)) k 0) (funneled 8 order h (getD (now (right .entry)) k 0) (getD (now (right .entry)) (k + 1) 0))) ⌝ }
+// Whole words with those of the right side at a head.
+fn funnel_words(words: &mut [u8], order: Order, operation: u8, right: &[u8], head: Index)
+    requires { ⌜ (1 ≤ head .0) × (head .0 < 8) × (length (now words) + 1 ≤ length (now right)) ⌝ }
+    ensures { λ _. ⌜ ((k : ℕ) → k < length (now (words .entry)) → getD (now (words .exit)) k 0 ≡ wordwise 8 operation (getD (now (words .entry)) k 0) (funneled 8 order (head .0) (getD (now (right .entry)) k 0) (getD (now (right .entry)) (k + 1) 0))) ⌝ }
 {
     let mut i: usize = 0;
     while i < words.len() {
-        let v = joined(order, h, right[i], right[i + 1]);
+        let v = joined(order, head, right[i], right[i + 1]);
         words[i] = apply(operation, words[i], v);
         i = i + 1;
     }
 }
 
 // The same, with a loop of its own for each of and, or and xor.
-fn funnel_cases(words: &mut [u8], order: Order, operation: u8, right: &[u8], h: usize)
-    requires { ⌜ (1 ≤ h) × (h < 8) × (length (now words) + 1 ≤ length (now right)) ⌝ }
-    ensures { λ _. ⌜ ((k : ℕ) → k < length (now (words .entry)) → getD (now (words .exit)) k 0 ≡ wordwise 8 operation (getD (now (words .entry)) k 0) (funneled 8 order h (getD (now (right .entry)) k 0) (getD (now (right .entry)) (k + 1) 0))) ⌝ }
+fn funnel_cases(words: &mut [u8], order: Order, operation: u8, right: &[u8], head: Index)
+    requires { ⌜ (1 ≤ head .0) × (head .0 < 8) × (length (now words) + 1 ≤ length (now right)) ⌝ }
+    ensures { λ _. ⌜ ((k : ℕ) → k < length (now (words .entry)) → getD (now (words .exit)) k 0 ≡ wordwise 8 operation (getD (now (words .entry)) k 0) (funneled 8 order (head .0) (getD (now (right .entry)) k 0) (getD (now (right .entry)) (k + 1) 0))) ⌝ }
 {
     match operation {
         8 => {
-            funnel_words(words, order, 8, right, h);
+            funnel_words(words, order, 8, right, head);
         }
         14 => {
-            funnel_words(words, order, 14, right, h);
+            funnel_words(words, order, 14, right, head);
         }
         6 => {
-            funnel_words(words, order, 6, right, h);
+            funnel_words(words, order, 6, right, head);
         }
         _ => {
-            funnel_words(words, order, operation, right, h);
+            funnel_words(words, order, operation, right, head);
         }
     }
 }
@@ -161,7 +169,7 @@ fn whole_words(
         return;
     }
     let f = b + k + 1;
-    funnel_cases(&mut words[a..e], order, operation, &right[b..f], h);
+    funnel_cases(&mut words[a..e], order, operation, &right[b..f], Index(h));
 }
 
 // n bits within one word; v has the right side's bits at the same indexes.
@@ -192,11 +200,11 @@ fn first_piece(
     }
     match order {
         Order::Lsb0 => {
-            let v = fetch(right, Order::Lsb0, s, d % 8, n);
+            let v = fetch(right, Order::Lsb0, s, Index(d % 8), n);
             piece(words, Order::Lsb0, d, n, operation, v);
         }
         Order::Msb0 => {
-            let v = fetch(right, Order::Msb0, s, d % 8, n);
+            let v = fetch(right, Order::Msb0, s, Index(d % 8), n);
             piece(words, Order::Msb0, d, n, operation, v);
         }
     }
@@ -221,11 +229,11 @@ fn last_piece(
     let at = d / 8 * 8;
     match order {
         Order::Lsb0 => {
-            let v = fetch(right, Order::Lsb0, s, at % 8, n);
+            let v = fetch(right, Order::Lsb0, s, Index(at % 8), n);
             piece(words, Order::Lsb0, at, n, operation, v);
         }
         Order::Msb0 => {
-            let v = fetch(right, Order::Msb0, s, at % 8, n);
+            let v = fetch(right, Order::Msb0, s, Index(at % 8), n);
             piece(words, Order::Msb0, at, n, operation, v);
         }
     }

@@ -1,5 +1,6 @@
 // Copy between two buffers of words of 64 bits: a first piece up to a word's start of the target, whole words, a last piece.
 use checks::check_copy;
+use rules::Index;
 use rules::Order;
 use rules::Span;
 use rules::Verdict;
@@ -29,14 +30,14 @@ fn plain_words(words: &mut [u64], source: &[u64])
     }
 }
 
-// Words from those of the source at head h.
-fn funnel_words(words: &mut [u64], order: Order, source: &[u64], h: usize)
-    requires { ⌜ (1 ≤ h) × (h < 64) × (length (now words) + 1 ≤ length (now source)) ⌝ }
-    ensures { λ _. ⌜ ((k : ℕ) → k < length (now (words .entry)) → getD (now (words .exit)) k 0 ≡ funneled 64 order h (getD (now (source .entry)) k 0) (getD (now (source .entry)) (k + 1) 0)) ⌝ }
+// Words from those of the source at a head.
+fn funnel_words(words: &mut [u64], order: Order, source: &[u64], head: Index)
+    requires { ⌜ (1 ≤ head .0) × (head .0 < 64) × (length (now words) + 1 ≤ length (now source)) ⌝ }
+    ensures { λ _. ⌜ ((k : ℕ) → k < length (now (words .entry)) → getD (now (words .exit)) k 0 ≡ funneled 64 order (head .0) (getD (now (source .entry)) k 0) (getD (now (source .entry)) (k + 1) 0)) ⌝ }
 {
     let mut i: usize = 0;
     while i < words.len() {
-        words[i] = joined(order, h, source[i], source[i + 1]);
+        words[i] = joined(order, head, source[i], source[i + 1]);
         i = i + 1;
     }
 }
@@ -59,7 +60,7 @@ fn whole(words: &mut [u64], order: Order, d: usize, source: &[u64], s: usize, k:
         return;
     }
     let f = b + k + 1;
-    funnel_words(&mut words[a..e], order, &source[b..f], h);
+    funnel_words(&mut words[a..e], order, &source[b..f], Index(h));
 }
 
 // n bits within one word of the target, of which there is one at least.
@@ -67,7 +68,7 @@ fn bits(words: &mut [u64], order: Order, d: usize, source: &[u64], s: usize, n: 
     requires { ⌜ (1 ≤ n) × (d % 64 + n ≤ 64) × (d + n ≤ length (now words) * 64) × (s + n ≤ length (now source) * 64) ⌝ }
     ensures { λ _. ⌜ now (words .exit) ≡ spliced 64 order (now (words .entry)) d n (λ i. row 64 order (now (source .entry)) (s + i)) ⌝ }
 {
-    let v = fetch(source, order, s, d % 64, n);
+    let v = fetch(source, order, s, Index(d % 64), n);
     put(words, order, d, n, v);
 }
 

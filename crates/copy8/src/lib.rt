@@ -1,5 +1,6 @@
 // Copy between two buffers of words of 8 bits: a first piece up to a word's start of the target, whole words, a last piece.
 use checks::check_copy;
+use rules::Index;
 use rules::Order;
 use rules::Span;
 use rules::Verdict;
@@ -29,14 +30,14 @@ fn plain_words(words: &mut [u8], source: &[u8])
     }
 }
 
-// Words from those of the source at head h.
-fn funnel_words(words: &mut [u8], order: Order, source: &[u8], h: usize)
-    requires { ⌜ (1 ≤ h) × (h < 8) × (length (now words) + 1 ≤ length (now source)) ⌝ }
-    ensures { λ _. ⌜ ((k : ℕ) → k < length (now (words .entry)) → getD (now (words .exit)) k 0 ≡ funneled 8 order h (getD (now (source .entry)) k 0) (getD (now (source .entry)) (k + 1) 0)) ⌝ }
+// Words from those of the source at a head.
+fn funnel_words(words: &mut [u8], order: Order, source: &[u8], head: Index)
+    requires { ⌜ (1 ≤ head .0) × (head .0 < 8) × (length (now words) + 1 ≤ length (now source)) ⌝ }
+    ensures { λ _. ⌜ ((k : ℕ) → k < length (now (words .entry)) → getD (now (words .exit)) k 0 ≡ funneled 8 order (head .0) (getD (now (source .entry)) k 0) (getD (now (source .entry)) (k + 1) 0)) ⌝ }
 {
     let mut i: usize = 0;
     while i < words.len() {
-        words[i] = joined(order, h, source[i], source[i + 1]);
+        words[i] = joined(order, head, source[i], source[i + 1]);
         i = i + 1;
     }
 }
@@ -59,7 +60,7 @@ fn whole(words: &mut [u8], order: Order, d: usize, source: &[u8], s: usize, k: u
         return;
     }
     let f = b + k + 1;
-    funnel_words(&mut words[a..e], order, &source[b..f], h);
+    funnel_words(&mut words[a..e], order, &source[b..f], Index(h));
 }
 
 // n bits within one word of the target, of which there is one at least.
@@ -67,7 +68,7 @@ fn bits(words: &mut [u8], order: Order, d: usize, source: &[u8], s: usize, n: us
     requires { ⌜ (1 ≤ n) × (d % 8 + n ≤ 8) × (d + n ≤ length (now words) * 8) × (s + n ≤ length (now source) * 8) ⌝ }
     ensures { λ _. ⌜ now (words .exit) ≡ spliced 8 order (now (words .entry)) d n (λ i. row 8 order (now (source .entry)) (s + i)) ⌝ }
 {
-    let v = fetch(source, order, s, d % 8, n);
+    let v = fetch(source, order, s, Index(d % 8), n);
     put(words, order, d, n, v);
 }
 

@@ -1,6 +1,8 @@
 // Equality of two rows of words of 8 bits: a first piece, whole words in blocks with no exit inside, a last piece.
 use checks::check_pair;
+use rules::End;
 use rules::EqualAnswer;
+use rules::Index;
 use rules::Order;
 use rules::Span;
 use rules::Verdict;
@@ -9,6 +11,7 @@ use word8::fetch;
 use word8::joined;
 use word8::lead;
 use word8::mask;
+use word8::under;
 ghost use mathlib.Core.Path.{_≡_};
 ghost use Prim.Native.Nat.{ℕ, _+_, _*_, _/_, _%_, _≤_, _<_};
 ghost use lib.ListN.{length, getD};
@@ -33,7 +36,7 @@ fn differ_plain(left: &[u8], a: usize, n: usize, right: &[u8], b: usize) -> u8
     v
 }
 
-// The same with the words of the right at head h.
+// The same with the words of the right at a head.
 fn differ_joined(
     left: &[u8],
     a: usize,
@@ -41,15 +44,15 @@ fn differ_joined(
     order: Order,
     right: &[u8],
     b: usize,
-    h: usize,
+    head: Index,
 ) -> u8
-    requires { ⌜ (a + n ≤ length (now left)) × (b + n + 1 ≤ length (now right)) × (1 ≤ h) × (h < 8) ⌝ }
-    ensures { λ r. ⌜ Differs r n (λ i. getD (now (left .entry)) (a + i) 0) (λ i. funneled 8 order h (getD (now (right .entry)) (b + i) 0) (getD (now (right .entry)) (b + i + 1) 0)) ⌝ }
+    requires { ⌜ (a + n ≤ length (now left)) × (b + n + 1 ≤ length (now right)) × (1 ≤ head .0) × (head .0 < 8) ⌝ }
+    ensures { λ r. ⌜ Differs r n (λ i. getD (now (left .entry)) (a + i) 0) (λ i. funneled 8 order (head .0) (getD (now (right .entry)) (b + i) 0) (getD (now (right .entry)) (b + i + 1) 0)) ⌝ }
 {
     let mut v: u8 = 0;
     let mut i: usize = 0;
     while i < n {
-        let x = joined(order, h, right[b + i], right[b + i + 1]);
+        let x = joined(order, head, right[b + i], right[b + i + 1]);
         v = v | (left[a + i] ^ x);
         i = i + 1;
     }
@@ -73,7 +76,7 @@ fn equal_plain(left: &[u8], a: usize, k: usize, right: &[u8], b: usize) -> bool
     v == 0
 }
 
-// The same with the words of the right at head h.
+// The same with the words of the right at a head.
 fn equal_joined(
     left: &[u8],
     a: usize,
@@ -81,20 +84,20 @@ fn equal_joined(
     order: Order,
     right: &[u8],
     b: usize,
-    h: usize,
+    head: Index,
 ) -> bool
-    requires { ⌜ (a + k ≤ length (now left)) × (b + k + 1 ≤ length (now right)) × (1 ≤ h) × (h < 8) ⌝ }
-    ensures { λ r. ⌜ Tells r k (λ i. getD (now (left .entry)) (a + i) 0) (λ i. funneled 8 order h (getD (now (right .entry)) (b + i) 0) (getD (now (right .entry)) (b + i + 1) 0)) ⌝ }
+    requires { ⌜ (a + k ≤ length (now left)) × (b + k + 1 ≤ length (now right)) × (1 ≤ head .0) × (head .0 < 8) ⌝ }
+    ensures { λ r. ⌜ Tells r k (λ i. getD (now (left .entry)) (a + i) 0) (λ i. funneled 8 order (head .0) (getD (now (right .entry)) (b + i) 0) (getD (now (right .entry)) (b + i + 1) 0)) ⌝ }
 {
     let mut i: usize = 0;
     while 512 <= k - i {
-        let v = differ_joined(left, a + i, 512, order, right, b + i, h);
+        let v = differ_joined(left, a + i, 512, order, right, b + i, head);
         if v != 0 {
             return false;
         }
         i = i + 512;
     }
-    let v = differ_joined(left, a + i, k - i, order, right, b + i, h);
+    let v = differ_joined(left, a + i, k - i, order, right, b + i, head);
     v == 0
 }
 
@@ -112,7 +115,7 @@ fn equal_whole(left: &[u8], order: Order, p: usize, k: usize, right: &[u8], q: u
     if h == 0 {
         return equal_plain(left, a, k, right, b);
     }
-    equal_joined(left, a, k, order, right, b, h)
+    equal_joined(left, a, k, order, right, b, Index(h))
 }
 
 // What n bits within one word of the left and as many of the right differ in.
@@ -123,9 +126,12 @@ fn differ_piece(left: &[u8], order: Order, p: usize, n: usize, right: &[u8], q: 
     if n == 0 {
         return 0;
     }
-    let v = fetch(right, order, q, p % 8, n);
-    let m = mask(order, p % 8, n);
-    (left[p / 8] ^ v) & m
+    let h = p % 8;
+    let end = h + n;
+    let v = fetch(right, order, q, Index(h), n);
+    let m = mask(order, Index(h), End(end));
+    let x = left[p / 8] ^ v;
+    under(m, x)
 }
 
 // Whether len bits of two rows agree.

@@ -4,6 +4,7 @@ use crate::parts::piece_at;
 use crate::parts::put_piece;
 use crate::parts::store_middle;
 use pieces::Cut;
+use rules::Index;
 use rules::Order;
 use rules::Significance;
 ghost use mathlib.Core.Path.{_≡_};
@@ -28,7 +29,7 @@ fn load_rest(
     if last == 0 {
         return a;
     }
-    let b = piece_at(words, order, start + whole, 0, last);
+    let b = piece_at(words, order, start + whole, Index(0), last);
     pieces::join(significance, a, whole * 64, b, last)
 }
 
@@ -38,11 +39,11 @@ pub fn load_bits(
     order: Order,
     significance: Significance,
     word: usize,
-    head: usize,
+    head: Index,
     len: usize,
 ) -> u64
-    requires { ⌜ (head < 64) × (64 < head + len) × (len ≤ chunk) × (word * 64 + head + len ≤ length (now words) * 64) ⌝ }
-    ensures { λ r. ⌜ (r ≡ loadOf 64 order significance (now (words .entry)) (word * 64 + head) len) × (r < 2 ^ len) ⌝ }
+    requires { ⌜ (head .0 < 64) × (64 < head .0 + len) × (len ≤ chunk) × (word * 64 + head .0 + len ≤ length (now words) * 64) ⌝ }
+    ensures { λ r. ⌜ (r ≡ loadOf 64 order significance (now (words .entry)) (word * 64 + head .0) len) × (r < 2 ^ len) ⌝ }
 {
     let cut = Cut::across(64, head, len);
     let first = cut.first;
@@ -72,7 +73,7 @@ fn store_rest(
         return;
     }
     let b = pieces::rest_of(significance, v, whole * 64);
-    put_piece(words, order, start + whole, 0, last, b);
+    put_piece(words, order, start + whole, Index(0), last, b);
 }
 
 // The low bits of a number, placed in a field of more than one piece so that a load returns them. All other bits stay.
@@ -81,12 +82,12 @@ pub fn store_bits(
     order: Order,
     significance: Significance,
     word: usize,
-    head: usize,
+    head: Index,
     len: usize,
     v: u64,
 )
-    requires { ⌜ (head < 64) × (64 < head + len) × (len ≤ chunk) × (word * 64 + head + len ≤ length (now words) * 64) ⌝ }
-    ensures { λ _. ⌜ now (words .exit) ≡ storeOf 64 order significance (now (words .entry)) (word * 64 + head) len v ⌝ }
+    requires { ⌜ (head .0 < 64) × (64 < head .0 + len) × (len ≤ chunk) × (word * 64 + head .0 + len ≤ length (now words) * 64) ⌝ }
+    ensures { λ _. ⌜ now (words .exit) ≡ storeOf 64 order significance (now (words .entry)) (word * 64 + head .0) len v ⌝ }
 {
     let cut = Cut::across(64, head, len);
     let first = cut.first;

@@ -6,6 +6,7 @@ use crate::parts::piece_at;
 use crate::parts::put_piece;
 use pieces::CHUNK;
 use pieces::Cut;
+use rules::Index;
 use rules::Order;
 use rules::Significance;
 ghost use mathlib.Core.Bool.{true};
@@ -22,11 +23,11 @@ pub fn load_near(
     order: Order,
     significance: Significance,
     word: usize,
-    head: usize,
+    head: Index,
     len: usize,
 ) -> u64
-    requires { ⌜ (head < 64) × (1 ≤ len) × (len ≤ chunk) × (word * 64 + head + len ≤ length (now words) * 64) × (word * 64 + chunk ≤ length (now words) * 64) × (significance ≡ own order) ⌝ }
-    ensures { λ r. ⌜ (r ≡ loadOf 64 order significance (now (words .entry)) (word * 64 + head) len) × (r < 2 ^ len) ⌝ }
+    requires { ⌜ (head .0 < 64) × (1 ≤ len) × (len ≤ chunk) × (word * 64 + head .0 + len ≤ length (now words) * 64) × (word * 64 + chunk ≤ length (now words) * 64) × (significance ≡ own order) ⌝ }
+    ensures { λ r. ⌜ (r ≡ loadOf 64 order significance (now (words .entry)) (word * 64 + head .0) len) × (r < 2 ^ len) ⌝ }
 {
     let cut = Cut::of(CHUNK, head, len);
     let first = cut.first;
@@ -36,7 +37,7 @@ pub fn load_near(
     if first == len {
         return a;
     }
-    let b = piece_at(words, order, word + CHUNK / 64, 0, last);
+    let b = piece_at(words, order, word + CHUNK / 64, Index(0), last);
     pieces::join(significance, a, first, b, last)
 }
 
@@ -46,12 +47,12 @@ pub fn store_near(
     order: Order,
     significance: Significance,
     word: usize,
-    head: usize,
+    head: Index,
     len: usize,
     v: u64,
 )
-    requires { ⌜ (head < 64) × (1 ≤ len) × (len ≤ chunk) × (word * 64 + head + len ≤ length (now words) * 64) × (word * 64 + chunk ≤ length (now words) * 64) × (significance ≡ own order) ⌝ }
-    ensures { λ _. ⌜ now (words .exit) ≡ storeOf 64 order significance (now (words .entry)) (word * 64 + head) len v ⌝ }
+    requires { ⌜ (head .0 < 64) × (1 ≤ len) × (len ≤ chunk) × (word * 64 + head .0 + len ≤ length (now words) * 64) × (word * 64 + chunk ≤ length (now words) * 64) × (significance ≡ own order) ⌝ }
+    ensures { λ _. ⌜ now (words .exit) ≡ storeOf 64 order significance (now (words .entry)) (word * 64 + head .0) len v ⌝ }
 {
     let cut = Cut::of(CHUNK, head, len);
     let first = cut.first;
@@ -64,7 +65,7 @@ pub fn store_near(
         return;
     }
     let b = pieces::rest_of(significance, v, first);
-    put_piece(words, order, word + CHUNK / 64, 0, last, b);
+    put_piece(words, order, word + CHUNK / 64, Index(0), last, b);
 }
 
 // Whether a chunk pays, where so many words are left: where it is more than one word, and there.

@@ -8,9 +8,10 @@ mod words;
 
 use crate::pairings::load_by;
 use crate::pairings::store_by;
-use crate::parts::piece_at;
 use crate::parts::put_piece;
+use crate::words::word_at;
 use rules::BitAnswer;
+use rules::Index;
 use rules::Number;
 use rules::NumberAnswer;
 use rules::Sign;
@@ -35,7 +36,10 @@ pub fn read_bit(words: &[u8], span: Span, index: usize) -> BitAnswer
             let order = span.order;
             let t = span.head.0 + index;
             let word = span.word + t / 8;
-            BitAnswer::Is(piece_at(words, order, word, t % 8, 1) == 1)
+            let position = Index(t % 8).position(Width::W8, order);
+            let selector = position.select();
+            let x = word_at(words, word);
+            BitAnswer::Is(x & selector.0 != 0)
         }
     }
 }
@@ -59,7 +63,7 @@ pub fn write_bit(words: &mut [u8], span: Span, index: usize, bit: bool) -> Write
             let t = span.head.0 + index;
             let word = span.word + t / 8;
             let value = digit_of(bit);
-            put_piece(words, order, word, t % 8, 1, value);
+            put_piece(words, order, word, Index(t % 8), 1, value);
             WriteAnswer::Done
         }
     }
@@ -81,7 +85,7 @@ pub fn load(
         Verdict::Fine => {
             let order = span.order;
             let len = span.len;
-            let u = load_by(words, order, significance, span.word, span.head.0, len);
+            let u = load_by(words, order, significance, span.word, span.head, len);
             NumberAnswer::Is(Number::of_bits(u, len, sign))
         }
     }
@@ -109,7 +113,7 @@ pub fn store(
                 order,
                 significance,
                 span.word,
-                span.head.0,
+                span.head,
                 span.len,
                 v,
             );
@@ -140,7 +144,7 @@ pub fn store_strict(
                 order,
                 significance,
                 span.word,
-                span.head.0,
+                span.head,
                 span.len,
                 v,
             );

@@ -7,6 +7,7 @@ use crate::near::pays;
 use crate::near::store_near;
 use crate::parts::piece_at;
 use crate::parts::put_piece;
+use rules::Index;
 use rules::Order;
 use rules::Significance;
 ghost use mathlib.Core.Path.{_≡_};
@@ -21,11 +22,11 @@ pub fn load_by(
     order: Order,
     significance: Significance,
     word: usize,
-    head: usize,
+    head: Index,
     len: usize,
 ) -> u64
-    requires { ⌜ (head < 8) × (1 ≤ len) × (len ≤ chunk) × (word * 8 + head + len ≤ length (now words) * 8) ⌝ }
-    ensures { λ r. ⌜ (r ≡ loadOf 8 order significance (now (words .entry)) (word * 8 + head) len) × (r < 2 ^ len) ⌝ }
+    requires { ⌜ (head .0 < 8) × (1 ≤ len) × (len ≤ chunk) × (word * 8 + head .0 + len ≤ length (now words) * 8) ⌝ }
+    ensures { λ r. ⌜ (r ≡ loadOf 8 order significance (now (words .entry)) (word * 8 + head .0) len) × (r < 2 ^ len) ⌝ }
 {
     let one = pieces::ends_within(8, head, len);
     if one {
@@ -61,12 +62,12 @@ pub fn store_by(
     order: Order,
     significance: Significance,
     word: usize,
-    head: usize,
+    head: Index,
     len: usize,
     v: u64,
 )
-    requires { ⌜ (head < 8) × (1 ≤ len) × (len ≤ chunk) × (word * 8 + head + len ≤ length (now words) * 8) ⌝ }
-    ensures { λ _. ⌜ now (words .exit) ≡ storeOf 8 order significance (now (words .entry)) (word * 8 + head) len v ⌝ }
+    requires { ⌜ (head .0 < 8) × (1 ≤ len) × (len ≤ chunk) × (word * 8 + head .0 + len ≤ length (now words) * 8) ⌝ }
+    ensures { λ _. ⌜ now (words .exit) ≡ storeOf 8 order significance (now (words .entry)) (word * 8 + head .0) len v ⌝ }
 {
     let one = pieces::ends_within(8, head, len);
     if one {

@@ -1,6 +1,7 @@
 // The parts of a field in memory: a piece of one word, and whole words. A piece does not depend on the significance, nor whole words on the order.
 use crate::words::put_word;
 use crate::words::word_at;
+use rules::Index;
 use rules::Order;
 use rules::Significance;
 ghost use mathlib.Core.Path.{_≡_};
@@ -11,18 +12,18 @@ ghost use Rattle.rules.specs.declared.Significance.{Significance};
 ghost use Rattle.rules.specs.Fields.{loadOf, storeOf};
 
 // The n bits of a word from index `head` on.
-pub fn piece_at(words: &[u8], order: Order, word: usize, head: usize, n: usize) -> u64
-    requires { ⌜ (1 ≤ n) × (head + n ≤ 8) × (word < length (now words)) ⌝ }
-    ensures { λ r. ⌜ ((e : Significance) → r ≡ loadOf 8 order e (now (words .entry)) (word * 8 + head) n) × (r < 2 ^ n) ⌝ }
+pub fn piece_at(words: &[u8], order: Order, word: usize, head: Index, n: usize) -> u64
+    requires { ⌜ (1 ≤ n) × (head .0 + n ≤ 8) × (word < length (now words)) ⌝ }
+    ensures { λ r. ⌜ ((e : Significance) → r ≡ loadOf 8 order e (now (words .entry)) (word * 8 + head .0) n) × (r < 2 ^ n) ⌝ }
 {
     let x = word_at(words, word);
     pieces::piece(8, x, order, head, n)
 }
 
 // The low n bits of a number, put in place of the n bits of a word from index `head` on.
-pub fn put_piece(words: &mut [u8], order: Order, word: usize, head: usize, n: usize, v: u64)
-    requires { ⌜ (1 ≤ n) × (head + n ≤ 8) × (word < length (now words)) ⌝ }
-    ensures { λ _. ⌜ ((e : Significance) → now (words .exit) ≡ storeOf 8 order e (now (words .entry)) (word * 8 + head) n v) ⌝ }
+pub fn put_piece(words: &mut [u8], order: Order, word: usize, head: Index, n: usize, v: u64)
+    requires { ⌜ (1 ≤ n) × (head .0 + n ≤ 8) × (word < length (now words)) ⌝ }
+    ensures { λ _. ⌜ ((e : Significance) → now (words .exit) ≡ storeOf 8 order e (now (words .entry)) (word * 8 + head .0) n v) ⌝ }
 {
     let x = word_at(words, word);
     let y = pieces::with_piece(8, x, order, head, n, v);

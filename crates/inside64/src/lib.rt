@@ -1,6 +1,7 @@
 // Copy inside one buffer of words of 64 bits, in place: a piece, whole words, a piece; downward exactly if the source range contains the
 // destination.
 use checks::check_move;
+use rules::Index;
 use rules::Order;
 use rules::Span;
 use rules::Verdict;
@@ -28,7 +29,7 @@ fn first_piece(words: &mut [u64], order: Order, from: usize, to: usize, n: usize
     if n == 0 {
         return;
     }
-    let v = fetch(words, order, from, to % 64, n);
+    let v = fetch(words, order, from, Index(to % 64), n);
     put(words, order, to, n, v);
 }
 
@@ -41,7 +42,7 @@ fn last_piece(words: &mut [u64], order: Order, from: usize, to: usize, n: usize)
         return;
     }
     let at = to / 64 * 64;
-    let v = fetch(words, order, from, at % 64, n);
+    let v = fetch(words, order, from, Index(at % 64), n);
     put(words, order, at, n, v);
 }
 
@@ -64,7 +65,7 @@ fn joined_up(words: &mut [u64], order: Order, h: usize, b: usize, a: usize, k: u
 {
     let mut i: usize = 0;
     while i < k {
-        words[a + i] = joined(order, h, words[b + i], words[b + i + 1]);
+        words[a + i] = joined(order, Index(h), words[b + i], words[b + i + 1]);
         i = i + 1;
     }
 }
@@ -89,7 +90,7 @@ fn joined_down(words: &mut [u64], order: Order, h: usize, b: usize, a: usize, k:
     let mut i: usize = k;
     while 0 < i {
         i = i - 1;
-        words[a + i] = joined(order, h, words[b + i], words[b + i + 1]);
+        words[a + i] = joined(order, Index(h), words[b + i], words[b + i + 1]);
     }
 }
 

@@ -5,7 +5,9 @@ pub use refusals::check_bit;
 pub use refusals::check_load;
 pub use refusals::check_store;
 pub use refusals::check_strict;
+use rules::Index;
 use rules::Order;
+use rules::Position;
 use rules::Significance;
 ghost use mathlib.Core.Path.{_≡_};
 ghost use mathlib.Core.Bool.{true, false};
@@ -27,11 +29,12 @@ pub struct Cut {
 
 impl Cut {
     // The cut of `len` bits from index `head` of a word of `width` bits on.
-    pub fn of(width: usize, head: usize, len: usize) -> Cut
-        requires { ⌜ (head < width) × (1 ≤ len) × (len ≤ 64) ⌝ }
-        ensures { λ r. ⌜ Cuts width head len (r .first) (r .whole) (r .last) ⌝ }
+    pub fn of(width: usize, head: Index, len: usize) -> Cut
+        requires { ⌜ (head .0 < width) × (1 ≤ len) × (len ≤ 64) ⌝ }
+        ensures { λ r. ⌜ Cuts width (head .0) len (r .first) (r .whole) (r .last) ⌝ }
     {
-        if len <= width - head {
+        let h = head.0;
+        if len <= width - h {
             return Cut {
                 first: len,
                 whole: 0,
@@ -42,11 +45,12 @@ impl Cut {
     }
 
     // The same of bits that do not end in the word.
-    pub fn across(width: usize, head: usize, len: usize) -> Cut
-        requires { ⌜ (head < width) × (width < head + len) × (len ≤ 64) ⌝ }
-        ensures { λ r. ⌜ Cuts width head len (r .first) (r .whole) (r .last) ⌝ }
+    pub fn across(width: usize, head: Index, len: usize) -> Cut
+        requires { ⌜ (head .0 < width) × (width < head .0 + len) × (len ≤ 64) ⌝ }
+        ensures { λ r. ⌜ Cuts width (head .0) len (r .first) (r .whole) (r .last) ⌝ }
     {
-        let room = width - head;
+        let h = head.0;
+        let room = width - h;
         let rest = len - room;
         if width == CHUNK {
             return Cut {
@@ -63,59 +67,63 @@ impl Cut {
     }
 }
 
-// Whether the n bits from index h of a word on end in it.
-pub fn ends_within(width: usize, h: usize, n: usize) -> bool
-    requires { ⌜ (h < width) × (width ≤ 64) × (n ≤ 64) ⌝ }
-    ensures { λ r. ⌜ (r ≡ true → h + n ≤ width) × (r ≡ false → width < h + n) ⌝ }
+// Whether the n bits from index `head` of a word on end in it.
+pub fn ends_within(width: usize, head: Index, n: usize) -> bool
+    requires { ⌜ (head .0 < width) × (width ≤ 64) × (n ≤ 64) ⌝ }
+    ensures { λ r. ⌜ (r ≡ true → head .0 + n ≤ width) × (r ≡ false → width < head .0 + n) ⌝ }
 {
+    let h = head.0;
     if width == CHUNK {
         return h <= CHUNK - n;
     }
     n <= width - h
 }
 
-// The lowest position of the n bits of a word from index h on.
-pub fn lowest_of(width: usize, order: Order, h: usize, n: usize) -> usize
-    requires { ⌜ (1 ≤ n) × (h + n ≤ width) ⌝ }
-    ensures { λ r. ⌜ (r ≡ lowest width order h n) × (r + n ≤ width) ⌝ }
+// The lowest position of the n bits of a word from index `head` on.
+pub fn lowest_of(width: usize, order: Order, head: Index, n: usize) -> Position
+    requires { ⌜ (1 ≤ n) × (head .0 + n ≤ width) ⌝ }
+    ensures { λ r. ⌜ (r .0 ≡ lowest width order (head .0) n) × (r .0 + n ≤ width) ⌝ }
 {
+    let h = head.0;
     match order {
-        Order::Lsb0 => h,
-        Order::Msb0 => width - h - n,
+        Order::Lsb0 => Position(h),
+        Order::Msb0 => Position(width - h - n),
     }
 }
 
-// How many of 64 bits lie above the bits of a word from index h on that are all but `rest` of 64.
-fn room_above(width: usize, order: Order, h: usize, rest: usize) -> usize
-    requires { ⌜ (rest < 64) × (h + (64 - rest) ≤ width) × (width ≤ 64) ⌝ }
-    ensures { λ r. ⌜ r ≡ rest - lowest width order h (64 - rest) ⌝ }
+// How many of 64 bits lie above the bits of a word from index `head` on that are all but `rest` of 64.
+fn room_above(width: usize, order: Order, head: Index, rest: usize) -> usize
+    requires { ⌜ (rest < 64) × (head .0 + (64 - rest) ≤ width) × (width ≤ 64) ⌝ }
+    ensures { λ r. ⌜ r ≡ rest - lowest width order (head .0) (64 - rest) ⌝ }
 {
+    let h = head.0;
     match order {
         Order::Lsb0 => rest - h,
         Order::Msb0 => 64 - width + h,
     }
 }
 
-// The n bits of the word x from index h on, as a number.
-pub fn piece(width: usize, x: u64, order: Order, h: usize, n: usize) -> u64
-    requires { ⌜ (1 ≤ n) × (h + n ≤ width) × (width ≤ 64) ⌝ }
-    ensures { λ r. ⌜ (r ≡ pieceOf width x order h n) × (r < 2 ^ n) ⌝ }
+// The n bits of the word x from index `head` on, as a number.
+pub fn piece(width: usize, x: u64, order: Order, head: Index, n: usize) -> u64
+    requires { ⌜ (1 ≤ n) × (head .0 + n ≤ width) × (width ≤ 64) ⌝ }
+    ensures { λ r. ⌜ (r ≡ pieceOf width x order (head .0) n) × (r < 2 ^ n) ⌝ }
 {
     let rest = 64 - n;
-    let up = room_above(width, order, h, rest);
+    let up = room_above(width, order, head, rest);
     (x << up) >> rest
 }
 
-// The word x with the low n bits of v in place of its n bits from index h on.
-pub fn with_piece(width: usize, x: u64, order: Order, h: usize, n: usize, v: u64) -> u64
-    requires { ⌜ (1 ≤ n) × (h + n ≤ width) × (width ≤ 64) × (x < 2 ^ width) ⌝ }
-    ensures { λ r. ⌜ (r ≡ masked width x (lowest width order h n) n v) × (r < 2 ^ width) ⌝ }
+// The word x with the low n bits of v in place of its n bits from index `head` on.
+pub fn with_piece(width: usize, x: u64, order: Order, head: Index, n: usize, v: u64) -> u64
+    requires { ⌜ (1 ≤ n) × (head .0 + n ≤ width) × (width ≤ 64) × (x < 2 ^ width) ⌝ }
+    ensures { λ r. ⌜ (r ≡ masked width x (lowest width order (head .0) n) n v) × (r < 2 ^ width) ⌝ }
 {
-    let p = lowest_of(width, order, h, n);
+    let lowest = lowest_of(width, order, head, n);
+    let mask = lowest.mask(n);
     let low = rules::low_ones(n);
-    let mask = low << p;
     let all = rules::low_ones(width);
-    (x & (all - mask)) | (v & low) << p
+    let p = lowest.0;
+    (x & (all - mask.0)) | (v & low) << p
 }
 
 // The number whose first part is the k bits a, and whose rest is the n bits b.

@@ -53,6 +53,7 @@ pub mod Sentences
 pub mod Unread
 pub mod Reading
 pub mod SingleBit
+pub mod Selectors
 pub mod FieldCalls
 pub mod RowCalls
 pub mod SearchAnswers

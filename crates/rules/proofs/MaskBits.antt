@@ -1,16 +1,14 @@
--- A mask by the indexes that it covers, and as shifts of a word of ones make it. Assumes nothing.
-use mathlib.Core.Path.{_≡_, sym, ap, _∙_}
+-- A mask by the indexes that it covers. Assumes nothing.
+use mathlib.Core.Path.{_≡_, ap, _∙_}
 use mathlib.Core.Logic.{_⊎_, inl, inr}
-use Prim.Native.Nat.{ℕ, _+_, _-_, _*_, _/_, _%_, _^_, _≤_, _<_}
+use Prim.Native.Nat.{ℕ, _+_, _-_, _*_, _^_, _≤_, _<_}
 use native.Mathlib.Omega.{arith}
-use lib.Pow.{shl-exact, ones-split, high, ones-lt}
 use Rattle.rules.specs.Types.{Order, Lsb0, Msb0}
 use Rattle.rules.specs.Bits.{bitN}
 use Rattle.rules.specs.Positions.{position, mask}
 use Rattle.rules.proofs.Bit.{bit-mask, bit-mask-below, bit-mask-above}
 use Rattle.rules.proofs.Field.{lowest}
 use Rattle.rules.proofs.Masks.{mask-is}
-use Rattle.rules.proofs.Chunk.{lowest-fits}
 
 -- the n indexes from h on
 pub mask-run : (W : ℕ) (o : Order) (h n : ℕ) → h + n ≤ W → mask W o h (h + n) ≡ (2 ^ n - 1) * 2 ^ lowest W o h n
@@ -50,24 +48,6 @@ mask-below W o h n i fits l = run-is W h n i fits o ∙ run-below W h n i fits o
 
 pub mask-above : (W : ℕ) (o : Order) (h n i : ℕ) → h + n ≤ W → h + n ≤ i → i < W → bitN (mask W o h (h + n)) (position W o i) ≡ 0
 mask-above W o h n i fits l m = run-is W h n i fits o ∙ run-above W h n i fits o l m
-
--- ---- all ones moved down to n of them, then up to the lowest position
-
-ones-down : (W n : ℕ) → n ≤ W → (2 ^ W - 1) / 2 ^ (W - n) ≡ 2 ^ n - 1
-ones-down W n h =
-    ap (λ (w : ℕ). (2 ^ w - 1) / 2 ^ (W - n)) (omega arith)
-    ∙ ap (λ (x : ℕ). x / 2 ^ (W - n)) (ones-split n (W - n))
-    ∙ high (2 ^ n - 1) (W - n) (ones-lt (W - n))
-
-pub mask-shifts : (W : ℕ) (o : Order) (h n k : ℕ) → h + n ≤ W → k ≡ lowest W o h n → ((2 ^ W - 1) / 2 ^ (W - n) * 2 ^ k) % 2 ^ W ≡ mask W o h (h + n)
-mask-shifts W o h n k fits e =
-    ap (λ (x : ℕ). x * 2 ^ k % 2 ^ W) (ones-down W n (omega arith))
-    ∙ shl-exact n k W (ones-lt n) (omega (arith, e, lowest-fits W o h n fits))
-    ∙ ap (λ (x : ℕ). (2 ^ n - 1) * 2 ^ x) e ∙ sym (mask-run W o h n fits)
-
-pub lowest-last : (W h n : ℕ) {o : Order} → o ≡ Msb0 → W - h - n ≡ lowest W o h n
-unfolding lowest
-lowest-last W h n e = rw e
 
 -- beside the run there is no bit
 pub mask-out : (W : ℕ) (o : Order) (h n i : ℕ) → h + n ≤ W → i < W → (i < h) ⊎ (h + n ≤ i) → bitN (mask W o h (h + n)) (position W o i) ≡ 0

@@ -51,6 +51,10 @@ pub mask-is : (W : ℕ) (o : Order) (from upto : ℕ) → from ≤ upto → upto
 unfolding mask
 mask-is W o from upto h l = selectors-are W o from (upto - from) (omega arith)
 
+-- the ones of a mask, from their lowest position up
+pub mask-from : (W : ℕ) (o : Order) (from upto low : ℕ) {m : ℕ} → from ≤ upto → upto ≤ W → low ≡ lowest W o from (upto - from) → m ≡ (2 ^ (upto - from) - 1) * 2 ^ low → m ≡ mask W o from upto
+mask-from W o from upto low h l e d = d ∙ ap (λ (x : ℕ). (2 ^ (upto - from) - 1) * 2 ^ x) e ∙ sym (mask-is W o from upto h l)
+
 -- `from` = `upto` gives 0
 pub mask-none : (W : ℕ) (o : Order) (from : ℕ) → mask W o from from ≡ 0
 unfolding mask selectors

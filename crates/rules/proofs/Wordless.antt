@@ -1,18 +1,17 @@
 -- The answers of the calls without lent words, from the tests that code makes. Assumes nothing.
-use Prim.Native.Nat.{ℕ, _+_, _-_, _*_, _%_, _^_, _≤_, _<_}
+use Prim.Native.Nat.{ℕ, _-_, _%_, _^_, _≤_, _<_}
 use mathlib.Core.Path.{_≡_, sym, ap, ap₂, _∙_}
 use mathlib.Core.Bool.{or-true}
 use native.Mathlib.Omega.{arith}
 use borrow.Author.Tests.{le-leb, lt-leb, lt-ltb, le-ltb}
 use lib.Dec.{ltb}
 use lib.Bits.{bitAnd, and-mask}
-use lib.Pow.{shl-exact, ones-lt}
 use Rattle.rules.specs.Types.{Order, Lsb0, Msb0, Refusal, Verdict, Fine, Refused}
 use Rattle.rules.specs.Positions.{position, selector, mask}
 use Rattle.rules.specs.Refusals.{number, verdict, indexCases, maskCases}
 use Rattle.rules.specs.Calls.{Answer, refused, a-position, a-selector, a-mask, said, positionAnswer, selectorAnswer, maskAnswer}
 use Rattle.rules.proofs.Field.{lowest}
-use Rattle.rules.proofs.Masks.{mask-is, mask-none}
+use Rattle.rules.proofs.Masks.{mask-none}
 
 module _ (W : ℕ) (o : Order) (i : ℕ) where
   pub position-refused : W ≤ i → refused 2 ≡ positionAnswer W o i
@@ -47,13 +46,6 @@ module _ (W : ℕ) (o : Order) (from upto : ℕ) where
   pub mask-given : {m : ℕ} → from < W → from ≤ upto → upto ≤ W → m ≡ mask W o from upto → a-mask m ≡ maskAnswer W o from upto
   unfolding verdict maskAnswer maskCases
   mask-given h l k e = rw (lt-leb W from h, le-ltb W upto k, le-ltb upto from l) (ap a-mask e)
-
--- the ones of a mask, moved to their lowest position in a machine word of 64 bits
-pub moved-ones : (W : ℕ) (o : Order) (f u low : ℕ) {ones : ℕ} → W ≤ 64 → f ≤ u → u ≤ W → ones ≡ 2 ^ (u - f) - 1 → low ≡ lowest W o f (u - f) → low + (u - f) ≤ 64
-    → (ones * 2 ^ low) % 2 ^ 64 ≡ mask W o f u
-moved-ones W o f u low {ones} w h l d e fits =
-    ap (λ (x : ℕ). (x * 2 ^ low) % 2 ^ 64) d ∙ shl-exact (u - f) low 64 (ones-lt (u - f)) (omega arith)
-    ∙ ap (λ (x : ℕ). (2 ^ (u - f) - 1) * 2 ^ x) e ∙ sym (mask-is W o f u h l)
 
 pub lowest-lsb0 : (W f n : ℕ) {o : Order} → o ≡ Lsb0 → f ≡ lowest W o f n
 unfolding lowest

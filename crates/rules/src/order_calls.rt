@@ -11,7 +11,7 @@ use crate::Selector;
 use crate::SelectorAnswer;
 use crate::Width;
 ghost use mathlib.Core.Path.{_≡_};
-ghost use Prim.Native.Nat.{_+_, _-_, _^_, _≤_, _<_};
+ghost use Prim.Native.Nat.{_+_, _-_, _*_, _^_, _≤_, _<_};
 ghost use Rattle.rules.specs.Bits.{bits};
 ghost use Rattle.rules.specs.Positions.{position, mask};
 ghost use Rattle.rules.specs.Calls.{positionAnswer, selectorAnswer, maskAnswer};
@@ -52,6 +52,16 @@ impl Position {
     {
         let p = self.0;
         Selector(1u64 << p)
+    }
+
+    // The mask of the n positions from this one up, of which there is one at least, for a caller that has seen that they end with 64.
+    pub fn mask(self, n: usize) -> Mask
+        requires { ⌜ (0 < n) × (self .0 + n ≤ 64) ⌝ }
+        ensures { λ r. ⌜ r .0 ≡ (2 ^ n - 1) * 2 ^ self .0 ⌝ }
+    {
+        let p = self.0;
+        let ones = low_ones(n);
+        Mask(ones << p)
     }
 }
 
@@ -103,24 +113,23 @@ impl Order {
         if u < f {
             return MaskAnswer::Refused(Refusal::NotBelow);
         }
-        MaskAnswer::Is(run(width, self, f, u))
+        MaskAnswer::Is(run(width, self, from, upto))
     }
 }
 
-// The mask of the indexes from `f` up to but without `u`, checked: a run of ones, moved to its lowest position.
-fn run(width: Width, order: Order, f: usize, u: usize) -> Mask
-    requires { ⌜ (f < bits width) × (f ≤ u) × (u ≤ bits width) ⌝ }
-    ensures { λ r. ⌜ r .0 ≡ mask (bits width) order f u ⌝ }
+// The mask of the indexes from `from` up to but without `upto`, checked: a run of ones from its lowest position up.
+fn run(width: Width, order: Order, from: Index, upto: End) -> Mask
+    requires { ⌜ (from .0 < bits width) × (from .0 ≤ upto .0) × (upto .0 ≤ bits width) ⌝ }
+    ensures { λ r. ⌜ r .0 ≡ mask (bits width) order (from .0) (upto .0) ⌝ }
 {
+    let f = from.0;
+    let u = upto.0;
     if u == f {
         return Mask(0);
     }
-    let ones = low_ones(u - f);
+    let n = u - f;
     match order {
-        Order::Lsb0 => Mask(ones << f),
-        Order::Msb0 => {
-            let low = width.bits() - u;
-            Mask(ones << low)
-        }
+        Order::Lsb0 => Position(f).mask(n),
+        Order::Msb0 => Position(width.bits() - u).mask(n),
     }
 }

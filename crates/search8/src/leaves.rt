@@ -1,21 +1,27 @@
 // The leaves, which know the word's type: the bits sought in a word, and blocks of words that have none.
+use rules::End;
+use rules::Index;
 use rules::Order;
 use word8::flip;
 use word8::mask;
+use word8::under;
 ghost use mathlib.Core.Path.{_≡_};
 ghost use Prim.Native.Nat.{_+_, _-_, _*_, _≤_};
 ghost use lib.ListN.{length, getD};
 ghost use Rattle.rules.proofs.WordSearch.{masked};
 ghost use Rattle.rules.proofs.Alike.{Alike, Gathered};
 
-// The bits sought among the n from index h of word k on, as the ones of a word.
-pub fn sought_in(words: &[u8], order: Order, sought: bool, k: usize, h: usize, n: usize) -> u8
-    requires { ⌜ (1 ≤ n) × (h + n ≤ 8) × (k * 8 + h + n ≤ length (now words) * 8) ⌝ }
-    ensures { λ r. ⌜ r ≡ masked 8 order sought (getD (now (words .entry)) k 0) h n ⌝ }
+// The bits sought among the n from index `head` of word k on, as the ones of a word.
+pub fn sought_in(words: &[u8], order: Order, sought: bool, k: usize, head: Index, n: usize) -> u8
+    requires { ⌜ (1 ≤ n) × (head .0 + n ≤ 8) × (k * 8 + head .0 + n ≤ length (now words) * 8) ⌝ }
+    ensures { λ r. ⌜ r ≡ masked 8 order sought (getD (now (words .entry)) k 0) (head .0) n ⌝ }
 {
     let f = flip(sought);
-    let m = mask(order, h, n);
-    (words[k] ^ f) & m
+    let h = head.0;
+    let end = h + n;
+    let m = mask(order, head, End(end));
+    let x = words[k] ^ f;
+    under(m, x)
 }
 
 // Zero exactly if each word is f.

@@ -24,7 +24,7 @@ pub fn first_one(words: &[u8], span: Span) -> SearchAnswer
         Verdict::Refused(no) => SearchAnswer::Refused(no),
         Verdict::Fine => {
             let order = span.order;
-            let r = first_in_row(words, order, true, span.word, span.head.0, span.len);
+            let r = first_in_row(words, order, true, span.word, span.head, span.len);
             first_answer(r, span.len)
         }
     }
@@ -39,7 +39,7 @@ pub fn first_zero(words: &[u8], span: Span) -> SearchAnswer
         Verdict::Refused(no) => SearchAnswer::Refused(no),
         Verdict::Fine => {
             let order = span.order;
-            let r = first_in_row(words, order, false, span.word, span.head.0, span.len);
+            let r = first_in_row(words, order, false, span.word, span.head, span.len);
             first_answer(r, span.len)
         }
     }
@@ -54,7 +54,7 @@ pub fn last_one(words: &[u8], span: Span) -> SearchAnswer
         Verdict::Refused(no) => SearchAnswer::Refused(no),
         Verdict::Fine => {
             let order = span.order;
-            let r = last_in_row(words, order, true, span.word, span.head.0, span.len);
+            let r = last_in_row(words, order, true, span.word, span.head, span.len);
             last_answer(r)
         }
     }
@@ -69,7 +69,7 @@ pub fn last_zero(words: &[u8], span: Span) -> SearchAnswer
         Verdict::Refused(no) => SearchAnswer::Refused(no),
         Verdict::Fine => {
             let order = span.order;
-            let r = last_in_row(words, order, false, span.word, span.head.0, span.len);
+            let r = last_in_row(words, order, false, span.word, span.head, span.len);
             last_answer(r)
         }
     }

@@ -1,12 +1,17 @@
 // The leaves that know a word of 64 bits. All that is done to a word by its order is done here.
 mod zeros;
 
+use rules::End;
+use rules::Index;
+use rules::Mask;
 use rules::Order;
-pub use zeros::first_index;
+use rules::Position;
 pub use zeros::flip;
 pub use zeros::last_end;
+pub use zeros::zeros_end;
 ghost use mathlib.Core.Path.{_≡_};
 ghost use Prim.Native.Nat.{min, _+_, _-_, _*_, _/_, _%_, _≤_, _<_};
+ghost use lib.Bits.{bitAnd};
 ghost use lib.ListN.{length, getD};
 ghost use Rattle.rules.specs.Bits.{bitN};
 ghost use Rattle.rules.specs.Positions.{position, mask, row, spliced};
@@ -14,16 +19,25 @@ ghost use Rattle.rules.proofs.Funnel.{funneled};
 ghost use Rattle.rules.proofs.Merged.{selected};
 ghost use Rattle.rules.proofs.Moves.{downOf, upOf, Carries};
 
-// The mask of the n indexes from h on, of which there is one at least.
-pub fn mask(order: Order, h: usize, n: usize) -> u64
-    requires { ⌜ (1 ≤ n) × (h + n ≤ 64) ⌝ }
-    ensures { λ r. ⌜ r ≡ mask 64 order h (h + n) ⌝ }
+// The mask of the indexes from `from` up to but without `upto`, of which there is one at least.
+pub fn mask(order: Order, from: Index, upto: End) -> Mask
+    requires { ⌜ (from .0 < upto .0) × (upto .0 ≤ 64) ⌝ }
+    ensures { λ r. ⌜ r .0 ≡ mask 64 order (from .0) (upto .0) ⌝ }
 {
-    let ones = 0xffff_ffff_ffff_ffffu64 >> (64 - n);
+    let f = from.0;
+    let u = upto.0;
+    let n = u - f;
     match order {
-        Order::Lsb0 => ones << h,
-        Order::Msb0 => ones << (64 - h - n),
+        Order::Lsb0 => Position(f).mask(n),
+        Order::Msb0 => Position(64 - u).mask(n),
     }
+}
+
+// The bits of x where m has ones.
+pub fn under(m: Mask, x: u64) -> u64
+    ensures { λ r. ⌜ r ≡ bitAnd x (m .0) ⌝ }
+{
+    (x as u64 & m.0) as u64
 }
 
 // A word moved k indexes down.
@@ -48,11 +62,12 @@ pub fn up(order: Order, x: u64, k: usize) -> u64
     }
 }
 
-// The word that begins at index h of x and goes on in y, the next one.
-pub fn joined(order: Order, h: usize, x: u64, y: u64) -> u64
-    requires { ⌜ (1 ≤ h) × (h < 64) ⌝ }
-    ensures { λ r. ⌜ r ≡ funneled 64 order h x y ⌝ }
+// The word that begins at index `head` of x and goes on in y, the next one.
+pub fn joined(order: Order, head: Index, x: u64, y: u64) -> u64
+    requires { ⌜ (1 ≤ head .0) × (head .0 < 64) ⌝ }
+    ensures { λ r. ⌜ r ≡ funneled 64 order (head .0) x y ⌝ }
 {
+    let h = head.0;
     match order {
         Order::Lsb0 => x >> h | y << 1 << (63 - h),
         Order::Msb0 => x << h | y >> 1 >> (63 - h),
@@ -60,10 +75,10 @@ pub fn joined(order: Order, h: usize, x: u64, y: u64) -> u64
 }
 
 // The bits of v where m has ones, else those of u.
-pub fn select(m: u64, u: u64, v: u64) -> u64
-    ensures { λ r. ⌜ r ≡ selected m u v ⌝ }
+pub fn select(m: Mask, u: u64, v: u64) -> u64
+    ensures { λ r. ⌜ r ≡ selected (m .0) u v ⌝ }
 {
-    u ^ ((u ^ v) & m)
+    u ^ under(m, u ^ v)
 }
 
 // The smaller of two numbers.
@@ -94,11 +109,12 @@ pub fn tail(end: usize, len: usize) -> usize
     if h < len { h } else { len }
 }
 
-// n bits of a row from place s on, brought to the indexes from h on. Its other bits are any.
-pub fn fetch(source: &[u64], order: Order, s: usize, h: usize, n: usize) -> u64
-    requires { ⌜ (1 ≤ n) × (h + n ≤ 64) × (s + n ≤ length (now source) * 64) ⌝ }
-    ensures { λ r. ⌜ Carries 64 order r h n (λ i. row 64 order (now (source .entry)) (s + i)) ⌝ }
+// n bits of a row from place s on, brought to the indexes from `head` on. Its other bits are any.
+pub fn fetch(source: &[u64], order: Order, s: usize, head: Index, n: usize) -> u64
+    requires { ⌜ (1 ≤ n) × (head .0 + n ≤ 64) × (s + n ≤ length (now source) * 64) ⌝ }
+    ensures { λ r. ⌜ Carries 64 order r (head .0) n (λ i. row 64 order (now (source .entry)) (s + i)) ⌝ }
 {
+    let h = head.0;
     if s < h {
         return up(order, source[0], h - s);
     }
@@ -110,7 +126,7 @@ pub fn fetch(source: &[u64], order: Order, s: usize, h: usize, n: usize) -> u64
     if g + h + n <= 64 {
         return down(order, source[b], g);
     }
-    joined(order, g, source[b], source[b + 1])
+    joined(order, Index(g), source[b], source[b + 1])
 }
 
 // n bits within one word of a row from place d on become those that v has at the same indexes.
@@ -119,7 +135,9 @@ pub fn put(words: &mut [u64], order: Order, d: usize, n: usize, v: u64)
     ensures { λ _. ⌜ now (words .exit) ≡ spliced 64 order (now (words .entry)) d n (λ i. bitN v (position 64 order (d % 64 + i))) ⌝ }
 {
     let word = d / 64;
-    let m = mask(order, d % 64, n);
+    let h = d % 64;
+    let end = h + n;
+    let m = mask(order, Index(h), End(end));
     let x = select(m, words[word], v);
     words[word] = x;
 }

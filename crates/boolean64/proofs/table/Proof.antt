@@ -16,14 +16,14 @@ spread-requires-3 c κs = search needs
 spread-requires-4 : tie.Need-spread-requires-4
 spread-requires-4 c κs = search needs
 
-select-requires : tie.Need-select-requires
-select-requires c κs = search needs
+choose-requires : tie.Need-choose-requires
+choose-requires c κs = search needs
 
-select-requires-2 : tie.Need-select-requires-2
-select-requires-2 c κs = search needs
+choose-requires-2 : tie.Need-choose-requires-2
+choose-requires-2 c κs = search needs
 
-select-requires-3 : tie.Need-select-requires-3
-select-requires-3 c κs = search needs
+choose-requires-3 : tie.Need-choose-requires-3
+choose-requires-3 c κs = search needs
 
 returns : tie.Need-returns
 returns c =
@@ -34,8 +34,8 @@ returns c =
     let one = two .before in
     let none = one .before in
     let a = none .before .args in
-    table-word 64 (a .operation) (a .a) (a .b) (none .spread .result) (one .spread2 .result) (two .spread3 .result) (three .spread4 .result) (low .select .result) (high .select2 .result)
-    (none .spread .ensures) (one .spread2 .ensures) (two .spread3 .ensures) (three .spread4 .ensures) (low .select .ensures) (high .select2 .ensures) (c .select3 .ensures)
+    table-word 64 (a .operation) (a .a) (a .b) (none .spread .result) (one .spread2 .result) (two .spread3 .result) (three .spread4 .result) (low .choose .result) (high .choose2 .result)
+    (none .spread .ensures) (one .spread2 .ensures) (two .spread3 .ensures) (three .spread4 .ensures) (low .choose .ensures) (high .choose2 .ensures) (c .choose3 .ensures)
 
 pub table-spec : {M : Type 1} → statement M
 table-spec =
@@ -45,7 +45,7 @@ table-spec =
     spread-requires-2
     spread-requires-3
     spread-requires-4
-    select-requires
-    select-requires-2
-    select-requires-3
+    choose-requires
+    choose-requires-2
+    choose-requires-3
     returns)

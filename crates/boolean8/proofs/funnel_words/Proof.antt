@@ -12,11 +12,11 @@ use Rattle.boolean8.proofs.funnel_words.Statement.{statement}
 use Rattle.boolean8.proofs.funnel_words.Tie as tie
 
 abbrev Inv-loop : tie.InvT-loop
-Inv-loop words₀ order operation right h i₀ words i = (i ≤ length words₀) × (length words ≡ length words₀) × ((k : ℕ) → k < i → getD words k 0 ≡ wordwise 8 operation (getD words₀ k 0) (funneled 8 order h (getD right k 0) (getD right (k + 1) 0)))
+Inv-loop words₀ order operation right head i₀ words i = (i ≤ length words₀) × (length words ≡ length words₀) × ((k : ℕ) → k < i → getD words k 0 ≡ wordwise 8 operation (getD words₀ k 0) (funneled 8 order (head .0) (getD right k 0) (getD right (k + 1) 0)))
     × ((k : ℕ) → i ≤ k → getD words k 0 ≡ getD words₀ k 0)
 
 abbrev μ-loop : tie.MeasureT-loop
-μ-loop words₀ order operation right h i₀ words i = length words₀ - i
+μ-loop words₀ order operation right head i₀ words i = length words₀ - i
 
 loop-holds : tie.Need-loop-holds Inv-loop μ-loop
 loop-holds c = (omega arith, refl, below-none _, (λ k l. refl))
@@ -55,7 +55,7 @@ loop-again c =
     let i = turn .loop .i in (
       omega arith,
       simp length-set (turn .loop .inv .1),
-      filled-more (turn .loop .words) i (c .apply .result) (λ k. wordwise 8 (a .operation) (getD (now (a .words)) k 0) (funneled 8 (a .order) (a .h) (getD (now (a .right)) k 0) (getD (now (a .right)) (k + 1) 0))) (omega arith) (turn .loop .inv .2)
+      filled-more (turn .loop .words) i (c .apply .result) (λ k. wordwise 8 (a .operation) (getD (now (a .words)) k 0) (funneled 8 (a .order) (a .head .0) (getD (now (a .right)) k 0) (getD (now (a .right)) (k + 1) 0))) (omega arith) (turn .loop .inv .2)
           (c .apply .ensures ∙ ap₂ (wordwise 8 (a .operation)) (turn .loop .inv .3 i (omega arith)) (c .before .before .joined .ensures)),
       kept-more (turn .loop .words) i (c .apply .result) (now (a .words)) (turn .loop .inv .3),
     )

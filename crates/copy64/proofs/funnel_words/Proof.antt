@@ -11,10 +11,10 @@ use Rattle.copy64.proofs.funnel_words.Statement.{statement}
 use Rattle.copy64.proofs.funnel_words.Tie as tie
 
 abbrev Inv-loop : tie.InvT-loop
-Inv-loop words₀ order source h i₀ words i = (i ≤ length words₀) × (length words ≡ length words₀) × ((k : ℕ) → k < i → getD words k 0 ≡ funneled 64 order h (getD source k 0) (getD source (k + 1) 0))
+Inv-loop words₀ order source head i₀ words i = (i ≤ length words₀) × (length words ≡ length words₀) × ((k : ℕ) → k < i → getD words k 0 ≡ funneled 64 order (head .0) (getD source k 0) (getD source (k + 1) 0))
 
 abbrev μ-loop : tie.MeasureT-loop
-μ-loop words₀ order source h i₀ words i = length words₀ - i
+μ-loop words₀ order source head i₀ words i = length words₀ - i
 
 loop-holds : tie.Need-loop-holds Inv-loop μ-loop
 loop-holds c = (omega arith, refl, below-none _)
@@ -55,7 +55,7 @@ loop-again c =
     let a = turn .before .before .before .args in (
       omega arith,
       simp length-set (turn .loop .inv .1),
-      filled-more (turn .loop .words) (turn .loop .i) (c .joined .result) (λ k. funneled 64 (a .order) (a .h) (getD (now (a .source)) k 0) (getD (now (a .source)) (k + 1) 0)) (omega arith)
+      filled-more (turn .loop .words) (turn .loop .i) (c .joined .result) (λ k. funneled 64 (a .order) (a .head .0) (getD (now (a .source)) k 0) (getD (now (a .source)) (k + 1) 0)) (omega arith)
           (turn .loop .inv .2) (c .joined .ensures),
     )
 

@@ -1,4 +1,4 @@
--- `read_bit`: the bit is a piece of one bit of its word. Assumes nothing.
+-- `read_bit`: the bit is a one exactly if its word and its selector have something in common. Assumes nothing.
 use borrow.Author.Needs.{needs}
 use native.Mathlib.Omega.{arith}
 use native.Mathlib.Nat.{mod-lt}
@@ -7,11 +7,11 @@ use Prim.Native.Nat.{ℕ, _+_, _*_, _/_, _%_}
 use lib.Dec.{lit<}
 use lib.ListN.{length}
 use denote.Ref.{now}
-use Rattle.rules.specs.declared.Significance.the-variants.{Le}
 use Rattle.rules.specs.declared.Verdict.the-variants.{Fine}
 use Rattle.rules.specs.Refusals.{verdict, bitCases}
 use Rattle.rules.proofs.Accepted.{Bit, fine-bit}
-use Rattle.rules.proofs.SingleBit.{read-refused, read-piece}
+use Rattle.rules.proofs.SingleBit.{read-refused}
+use Rattle.rules.proofs.Selectors.{read-selected}
 use Rattle.field64.proofs.read_bit.Statement.{statement}
 use Rattle.field64.proofs.read_bit.Tie as tie
 use Rattle.rules.proofs.OneAnswer.{judged}
@@ -37,14 +37,23 @@ add-t c = let h = held (c .before) in let i = h .lies in omega arith
 add-word : tie.Need-add-word
 add-word c = let h = held (c .before .before) in let i = h .lies in omega arith
 
-piece-at-requires : tie.Need-piece-at-requires
-piece-at-requires c κs = let h = held (c .before .before) in (omega arith, omega arith, h .word-in)
+position-requires : tie.Need-position-requires
+position-requires c κs = search needs
+
+select-requires : tie.Need-select-requires
+select-requires c κs = search needs
+
+word-at-requires : tie.Need-word-at-requires
+word-at-requires c κs = held (c .before .before .before .before) .word-in
 
 returns : tie.Need-returns
 returns c = read-refused 64 _ _ _ _ (sym (judged (c .before .before .before .check-bit .ensures)) ∙ c .before .verdict .given .1)
 
 returns-2 : tie.Need-returns-2
-returns-2 c = read-piece 64 _ _ _ (fine (c .before .before .before)) (c .piece-at .ensures .0 Le)
+returns-2 c = let w = c .before in
+    let s = w .before in
+    let p = s .before in
+    read-selected 64 _ _ _ (fine (p .before .before .before)) (p .position .ensures .0) (s .select .ensures) (w .word-at .ensures .0)
 
 pub read-bit-spec : {M : Type 1} → statement M
 read-bit-spec =
@@ -55,6 +64,8 @@ read-bit-spec =
     enum-told
     add-t
     add-word
-    piece-at-requires
+    position-requires
+    select-requires
+    word-at-requires
     returns
     returns-2)

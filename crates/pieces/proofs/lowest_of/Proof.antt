@@ -11,11 +11,11 @@ enum-told c = search needs
 enum-told-2 : tie.Need-enum-told-2
 enum-told-2 c = search needs
 
-sub-result : tie.Need-sub-result
-sub-result c = search needs
+sub-t7 : tie.Need-sub-t7
+sub-t7 c = search needs
 
-sub-result-2 : tie.Need-sub-result-2
-sub-result-2 c = search needs
+sub-t8 : tie.Need-sub-t8
+sub-t8 c = search needs
 
 returns : tie.Need-returns
 unfolding lowest
@@ -27,4 +27,4 @@ returns-2 c = (rw (c .enum-told2 .given .1), omega arith)
 
 pub lowest-of-spec : {M : Type 1} → statement M
 lowest-of-spec =
-    tie.close (tie.spec enum-told enum-told-2 sub-result sub-result-2 returns returns-2)
+    tie.close (tie.spec enum-told enum-told-2 sub-t7 sub-t8 returns returns-2)

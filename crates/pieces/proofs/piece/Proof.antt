@@ -10,15 +10,15 @@ use Rattle.pieces.proofs.piece.Statement.{statement}
 use Rattle.pieces.proofs.piece.Tie as tie
 
 is : (c : tie.After-room-above)
-    → (let a = c .before .args in a .x * 2 ^ c .room-above .result % 2 ^ 64 / 2 ^ (64 - a .n) ≡ pieceOf (a .width) (a .x) (a .order) (a .h) (a .n))
+    → (let a = c .before .args in a .x * 2 ^ c .room-above .result % 2 ^ 64 / 2 ^ (64 - a .n) ≡ pieceOf (a .width) (a .x) (a .order) (a .head .0) (a .n))
 unfolding pieceOf
 is c =
     let a = c .before .args in
-    let fits = lowest-fits (a .width) (a .order) (a .h) (a .n) (c .before .pre .1) in
+    let fits = lowest-fits (a .width) (a .order) (a .head .0) (a .n) (c .before .pre .1) in
     let back : 64 - (64 - a .n) ≡ a .n = omega arith in
-    let turn : 64 - a .n - lowest (a .width) (a .order) (a .h) (a .n) ≡ 64 - lowest (a .width) (a .order) (a .h) (a .n) - a .n = omega arith in
-    rw (c .room-above .ensures ∙ ap (λ (m : ℕ). 64 - a .n - lowest (a .width) (a .order) (a .h) m) back ∙ turn)
-    (shifted (a .x) (lowest (a .width) (a .order) (a .h) (a .n)) (a .n) (omega arith))
+    let turn : 64 - a .n - lowest (a .width) (a .order) (a .head .0) (a .n) ≡ 64 - lowest (a .width) (a .order) (a .head .0) (a .n) - a .n = omega arith in
+    rw (c .room-above .ensures ∙ ap (λ (m : ℕ). 64 - a .n - lowest (a .width) (a .order) (a .head .0) m) back ∙ turn)
+    (shifted (a .x) (lowest (a .width) (a .order) (a .head .0) (a .n)) (a .n) (omega arith))
 
 sub-rest : tie.Need-sub-rest
 sub-rest c = search needs

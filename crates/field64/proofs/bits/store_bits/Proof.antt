@@ -56,10 +56,10 @@ returns c = let s = c .before .before in
     let o = a .order in
     let m = r .whole * 64 + r .last in
     let rest : a .len - r .first ≡ m = omega arith in
-    store-rest 64 (lit< tt) o g (now (a .words)) (a .word) (a .head) (r .first) m (d .across .ensures .edge (omega arith)) (a .v)
-    (p .put-piece .ensures g ∙ ap (storeOf 64 o g (now (a .words)) (a .word * 64 + a .head) (r .first)) (f .first-of .ensures ∙ ap (firstOf g (a .v)) rest))
+    store-rest 64 (lit< tt) o g (now (a .words)) (a .word) (a .head .0) (r .first) m (d .across .ensures .edge (omega arith)) (a .v)
+    (p .put-piece .ensures g ∙ ap (storeOf 64 o g (now (a .words)) (a .word * 64 + a .head .0) (r .first)) (f .first-of .ensures ∙ ap (firstOf g (a .v)) rest))
     (s .store-rest .ensures ∙ ap (storeOf 64 o g (p .put-piece .last .0) ((a .word + 1) * 64) m) (b .rest-of .ensures))
-    ∙ ap (λ (x : ℕ). storeOf 64 o g (now (a .words)) (a .word * 64 + a .head) x (a .v)) (omega arith)
+    ∙ ap (λ (x : ℕ). storeOf 64 o g (now (a .words)) (a .word * 64 + a .head .0) x (a .v)) (omega arith)
 
 pub store-bits-spec : {M : Type 1} → statement M
 store-bits-spec =

@@ -15,7 +15,7 @@ use Rattle.field64.proofs.near.load_near.Statement.{statement}
 use Rattle.field64.proofs.near.load_near.Tie as tie
 
 -- past the chunk's piece, which ends where the chunk does
-edge : (c : tie.Else1) → (let k = c .before .before .before in k .before .before .args .head + k .of .result .first ≡ chunk)
+edge : (c : tie.Else1) → (let k = c .before .before .before in k .before .before .args .head .0 + k .of .result .first ≡ chunk)
 edge c = let k = c .before .before .before .of .ensures .all in c .before .before .before .of .ensures .edge (omega arith)
 
 of-requires : tie.Need-of-requires
@@ -35,9 +35,9 @@ returns c = let p = c .before in
     let r = k .of .result in
     let o = a .order in
     let all : r .first ≡ a .len = omega arith in
-    load-fits 64 (lit< tt) o (a .significance) (now (a .words)) (a .word * 64 + a .head) (a .len)
-    (p .piece .ensures .0 ∙ chunk-piece 64 (lit< tt) o (now (a .words)) (a .word) chunk (x .chunk-at .ensures .0) (a .head) (r .first) (omega arith)
-    ∙ ap₂ (λ (e : Significance) (n : ℕ). loadOf 64 o e (now (a .words)) (a .word * 64 + a .head) n) (sym (k .before .before .pre .5)) all)
+    load-fits 64 (lit< tt) o (a .significance) (now (a .words)) (a .word * 64 + a .head .0) (a .len)
+    (p .piece .ensures .0 ∙ chunk-piece 64 (lit< tt) o (now (a .words)) (a .word) chunk (x .chunk-at .ensures .0) (a .head .0) (r .first) (omega arith)
+    ∙ ap₂ (λ (e : Significance) (n : ℕ). loadOf 64 o e (now (a .words)) (a .word * 64 + a .head .0) n) (sym (k .before .before .pre .5)) all)
 
 add-piece-at : tie.Need-add-piece-at
 add-piece-at c = search needs
@@ -64,11 +64,11 @@ returns-2 c = let d = c .before .before in
     let cuts = k .of .ensures .all in
     let e = edge d in
     let all : r .first + r .last ≡ a .len = omega arith in
-    load-fits 64 (lit< tt) o (a .significance) (now (a .words)) (a .word * 64 + a .head) (a .len)
+    load-fits 64 (lit< tt) o (a .significance) (now (a .words)) (a .word * 64 + a .head .0) (a .len)
     (c .join .ensures ∙ ap (λ (e : Significance). joined e (p .piece .result) (r .first) (c .before .piece-at .result) (r .last)) s
-    ∙ chunk-two 64 (lit< tt) o (now (a .words)) (a .word) chunk (x .chunk-at .ensures .0) (chunk / 64) (a .head) (r .first) (r .last) refl e (omega arith)
+    ∙ chunk-two 64 (lit< tt) o (now (a .words)) (a .word) chunk (x .chunk-at .ensures .0) (chunk / 64) (a .head .0) (r .first) (r .last) refl e (omega arith)
     (p .piece .ensures .0) (c .before .piece-at .ensures .0 (own o))
-    ∙ ap₂ (λ (e : Significance) (n : ℕ). loadOf 64 o e (now (a .words)) (a .word * 64 + a .head) n) (sym s) all)
+    ∙ ap₂ (λ (e : Significance) (n : ℕ). loadOf 64 o e (now (a .words)) (a .word * 64 + a .head .0) n) (sym s) all)
 
 pub load-near-spec : {M : Type 1} → statement M
 load-near-spec =

@@ -7,10 +7,10 @@ use Rattle.rules.proofs.Chunk.{own}
 use Rattle.field64.proofs.pairings.store_by.Statement.{statement}
 use Rattle.field64.proofs.pairings.store_by.Tie as tie
 
-inside : (c : tie.Then1) → (let a = c .before .before .before .args in a .head + a .len ≤ 64)
+inside : (c : tie.Then1) → (let a = c .before .before .before .args in a .head .0 + a .len ≤ 64)
 inside c = c .before .ends-within .ensures .0 (c .if1 .taken)
 
-beyond : (c : tie.Else1) → (let a = c .before .before .before .args in 64 < a .head + a .len)
+beyond : (c : tie.Else1) → (let a = c .before .before .before .args in 64 < a .head .0 + a .len)
 beyond c = c .before .ends-within .ensures .1 (c .if1 .left)
 
 ends-within-requires : tie.Need-ends-within-requires

@@ -18,8 +18,8 @@ piece-requires c κs = search needs
 returns : tie.Need-returns
 returns c = let a = c .before .before .before .args in
     let p = c .piece .ensures in (
-      λ e. p .0 ∙ ap (λ (x : ℕ). pieceOf 64 x (a .order) (a .head) (a .n)) (c .before .word-at .ensures .0)
-          ∙ load-piece 64 (lit< tt) (a .order) e (now (a .words)) (a .word) (a .head) (a .n) (omega arith),
+      λ e. p .0 ∙ ap (λ (x : ℕ). pieceOf 64 x (a .order) (a .head .0) (a .n)) (c .before .word-at .ensures .0)
+          ∙ load-piece 64 (lit< tt) (a .order) e (now (a .words)) (a .word) (a .head .0) (a .n) (omega arith),
       p .1,
     )
 

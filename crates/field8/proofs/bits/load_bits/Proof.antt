@@ -45,10 +45,10 @@ returns c = let d = c .before .before in
     let m = r .whole * 8 + r .last in
     let e = rest d in
     let w = k .across .ensures .all in
-    load-fits 8 (lit< tt) (a .order) (a .significance) (now (a .words)) (a .word * 8 + a .head) (a .len)
+    load-fits 8 (lit< tt) (a .order) (a .significance) (now (a .words)) (a .word * 8 + a .head .0) (a .len)
     (c .join .ensures ∙ ap (joined (a .significance) (d .piece-at .result) (r .first) (c .before .load-rest .result)) (sym e)
-    ∙ load-rest 8 (lit< tt) (a .order) (a .significance) (now (a .words)) (a .word) (a .head) (r .first) m (k .across .ensures .edge (omega arith)) (d .piece-at .ensures .0 (a .significance)) (c .before .load-rest .ensures .0)
-    ∙ ap (loadOf 8 (a .order) (a .significance) (now (a .words)) (a .word * 8 + a .head)) (omega arith))
+    ∙ load-rest 8 (lit< tt) (a .order) (a .significance) (now (a .words)) (a .word) (a .head .0) (r .first) m (k .across .ensures .edge (omega arith)) (d .piece-at .ensures .0 (a .significance)) (c .before .load-rest .ensures .0)
+    ∙ ap (loadOf 8 (a .order) (a .significance) (now (a .words)) (a .word * 8 + a .head .0)) (omega arith))
 
 pub load-bits-spec : {M : Type 1} → statement M
 load-bits-spec =

@@ -56,10 +56,10 @@ returns c = let s = c .before .before in
     let o = a .order in
     let m = r .whole * 8 + r .last in
     let rest : a .len - r .first ≡ m = omega arith in
-    store-rest 8 (lit< tt) o g (now (a .words)) (a .word) (a .head) (r .first) m (d .across .ensures .edge (omega arith)) (a .v)
-    (p .put-piece .ensures g ∙ ap (storeOf 8 o g (now (a .words)) (a .word * 8 + a .head) (r .first)) (f .first-of .ensures ∙ ap (firstOf g (a .v)) rest))
+    store-rest 8 (lit< tt) o g (now (a .words)) (a .word) (a .head .0) (r .first) m (d .across .ensures .edge (omega arith)) (a .v)
+    (p .put-piece .ensures g ∙ ap (storeOf 8 o g (now (a .words)) (a .word * 8 + a .head .0) (r .first)) (f .first-of .ensures ∙ ap (firstOf g (a .v)) rest))
     (s .store-rest .ensures ∙ ap (storeOf 8 o g (p .put-piece .last .0) ((a .word + 1) * 8) m) (b .rest-of .ensures))
-    ∙ ap (λ (x : ℕ). storeOf 8 o g (now (a .words)) (a .word * 8 + a .head) x (a .v)) (omega arith)
+    ∙ ap (λ (x : ℕ). storeOf 8 o g (now (a .words)) (a .word * 8 + a .head .0) x (a .v)) (omega arith)
 
 pub store-bits-spec : {M : Type 1} → statement M
 store-bits-spec =

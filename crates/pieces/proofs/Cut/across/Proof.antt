@@ -14,14 +14,14 @@ sub-rest c = search needs
 returns : tie.Need-returns
 returns c = cut-two _ _ _ (omega arith) (omega arith) (omega arith)
 
-div-t7 : tie.Need-div-t7
-div-t7 c = search needs
+div-t8 : tie.Need-div-t8
+div-t8 c = search needs
 
-rem-t8 : tie.Need-rem-t8
-rem-t8 c = search needs
+rem-t9 : tie.Need-rem-t9
+rem-t9 c = search needs
 
 returns-2 : tie.Need-returns-2
 returns-2 c = cut-more _ _ _ (omega arith) (omega arith)
 
 pub across-spec : {M : Type 1} → statement M
-across-spec = tie.close (tie.spec sub-room sub-rest returns div-t7 rem-t8 returns-2)
+across-spec = tie.close (tie.spec sub-room sub-rest returns div-t8 rem-t9 returns-2)

@@ -51,14 +51,14 @@ sub-i-2 c = search needs
 least-requires : tie.Need-least-requires
 least-requires c κs = search needs
 
+sub-h : tie.Need-sub-h
+sub-h c = search needs
+
 sub-result : tie.Need-sub-result
 sub-result c = search needs
 
 sub-last-in-word : tie.Need-sub-last-in-word
 sub-last-in-word c = search needs
-
-sub-last-in-word-2 : tie.Need-sub-last-in-word-2
-sub-last-in-word-2 c = search needs
 
 last-in-word-requires : tie.Need-last-in-word-requires
 last-in-word-requires c κs = search needs
@@ -76,8 +76,8 @@ returns c =
     let a = start .args in
     let j = at-skip .skip-down .result in
     let n = at-least .least .result in
-    let p = pieces (a .word) (a .head) (a .e) (a .m) j n (start .pre .0) (start .pre .2) (at-skip .skip-down .ensures .0) (at-skip .skip-down .ensures .1) (at-least .least .ensures) in
-    last-frame 64 (lit< tt) (a .order) (a .words .now) (λ k. known .shared-slice-known .given k .fits) (a .sought) (a .word * 64 + a .head) (a .word + 1) (a .e) j
+    let p = pieces (a .word) (a .head .0) (a .e) (a .m) j n (start .pre .0) (start .pre .2) (at-skip .skip-down .ensures .0) (at-skip .skip-down .ensures .1) (at-least .least .ensures) in
+    last-frame 64 (lit< tt) (a .order) (a .words .now) (λ k. known .shared-slice-known .given k .fits) (a .sought) (a .word * 64 + a .head .0) (a .word + 1) (a .e) j
     (a .m - (a .e - j) * 64) n (a .m) (at-flip .flip .result) (at-flip .flip .ensures) (at-skip .skip-down .ensures .2) (at-skip .skip-down .ensures .3)
     (start .pre .2) (p .to) (p .upto) (p .parts) (p .at) (p .whole) (p .first) (c .last-in-word .ensures)
 
@@ -92,9 +92,9 @@ last-further-spec =
     mul-i
     sub-i-2
     least-requires
+    sub-h
     sub-result
     sub-last-in-word
-    sub-last-in-word-2
     last-in-word-requires
     add-result
     returns)

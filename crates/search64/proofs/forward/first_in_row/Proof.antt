@@ -53,7 +53,7 @@ returns-3 c =
     let at-word = at-if .before .before .before in
     let a = at-word .before .before .before .args in
     let t = at-word .before .least .result in
-    first-further 64 (a .order) (a .words .now) (a .sought) (a .word * 64 + a .head) (a .len) t (a .len - t) ((a .word + 1) * 64)
+    first-further 64 (a .order) (a .words .now) (a .sought) (a .word * 64 + a .head .0) (a .len) t (a .len - t) ((a .word + 1) * 64)
     (at-word .first-in-word .ensures) (at-if .before .if2 .left) (omega arith) (omega arith) (at-if .if3 .taken) (c .first-further .ensures)
 
 returns-4 : tie.Need-returns-4
@@ -62,7 +62,7 @@ returns-4 c =
     let at-word = at-if .before .before .before in
     let a = at-word .before .before .before .args in
     let t = at-word .before .least .result in
-    first-further 64 (a .order) (a .words .now) (a .sought) (a .word * 64 + a .head) (a .len) t (a .len - t) ((a .word + 1) * 64)
+    first-further 64 (a .order) (a .words .now) (a .sought) (a .word * 64 + a .head .0) (a .len) t (a .len - t) ((a .word + 1) * 64)
     (at-word .first-in-word .ensures) (at-if .before .if2 .left) (omega arith) (omega arith) (at-if .if3 .left) (c .first-further2 .ensures)
 
 pub first-in-row-spec : {M : Type 1} → statement M

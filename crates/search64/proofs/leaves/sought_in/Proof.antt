@@ -1,5 +1,6 @@
 -- `sought_in`: the flip and the mask that the leaves promise. Assumes nothing.
 use borrow.Author.Needs.{needs}
+use mathlib.Core.Path.{_∙_}
 use lib.ListN.{getD}
 use Rattle.rules.proofs.WordSearch.{masked-by}
 use Rattle.search64.proofs.leaves.sought_in.Statement.{statement}
@@ -8,20 +9,29 @@ use Rattle.search64.proofs.leaves.sought_in.Tie as tie
 flip-requires : tie.Need-flip-requires
 flip-requires c κs = search needs
 
+add-end : tie.Need-add-end
+add-end c = search needs
+
 mask-requires : tie.Need-mask-requires
 mask-requires c κs = search needs
 
-mul-result : tie.Need-mul-result
-mul-result c = search needs
+mul-x : tie.Need-mul-x
+mul-x c = search needs
 
-shared-slice-read-result : tie.Need-shared-slice-read-result
-shared-slice-read-result c = search needs
+shared-slice-read-x : tie.Need-shared-slice-read-x
+shared-slice-read-x c = search needs
+
+under-requires : tie.Need-under-requires
+under-requires c κs = search needs
 
 returns : tie.Need-returns
 returns c =
-    let a = c .before .before .before .before .args in
-    masked-by 64 (a .order) (a .sought) (getD (a .words .now) (a .k) 0) (a .h) (a .n) (c .before .before .flip .ensures) (c .before .mask .ensures)
+    let at-mask = c .before .before in
+    let a = at-mask .before .before .before .args in
+    c .under .ensures
+    ∙ masked-by 64 (a .order) (a .sought) (getD (a .words .now) (a .k) 0) (a .head .0) (a .n) (at-mask .before .flip .ensures) (at-mask .mask .ensures)
 
 pub sought-in-spec : {M : Type 1} → statement M
 sought-in-spec =
-    tie.close (tie.spec flip-requires mask-requires mul-result shared-slice-read-result returns)
+    tie.close
+    (tie.spec flip-requires add-end mask-requires mul-x shared-slice-read-x under-requires returns)

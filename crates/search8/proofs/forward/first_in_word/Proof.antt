@@ -11,28 +11,28 @@ returns c = first-of-none _ _ _ (omega arith)
 sought-in-requires : tie.Need-sought-in-requires
 sought-in-requires c κs = search needs
 
-first-index-requires : tie.Need-first-index-requires
-first-index-requires c κs = search needs
+zeros-end-requires : tie.Need-zeros-end-requires
+zeros-end-requires c κs = search needs
 
 sub-result : tie.Need-sub-result
 sub-result c =
     let at-call = c .before in
     let a = at-call .before .before .before .before .args in
-    omega (arith, first-past 8 (a .order) (a .words .now) (a .sought) (a .k) (a .h) (a .n) (omega arith) (at-call .before .sought-in .ensures) (at-call .first-index .result) (at-call .first-index .ensures) (omega arith))
+    omega (arith, first-past 8 (a .order) (a .words .now) (a .sought) (a .k) (a .head .0) (a .n) (omega arith) (at-call .before .sought-in .ensures) (at-call .zeros-end .result .0) (at-call .zeros-end .ensures) (omega arith))
 
 returns-2 : tie.Need-returns-2
 returns-2 c =
     let at-call = c .before in
     let a = at-call .before .before .before .before .args in
-    first-some 8 (a .order) (a .words .now) (a .sought) (a .k) (a .h) (a .n) (omega arith) (at-call .before .sought-in .ensures) (at-call .first-index .result) (at-call .first-index .ensures) (omega arith)
+    first-some 8 (a .order) (a .words .now) (a .sought) (a .k) (a .head .0) (a .n) (omega arith) (at-call .before .sought-in .ensures) (at-call .zeros-end .result .0) (at-call .zeros-end .ensures) (omega arith)
 
 returns-3 : tie.Need-returns-3
 returns-3 c =
     let at-call = c .before in
     let a = at-call .before .before .before .before .args in
-    first-none 8 (a .order) (a .words .now) (a .sought) (a .k) (a .h) (a .n) (omega arith) (at-call .before .sought-in .ensures) (at-call .first-index .result) (at-call .first-index .ensures) (omega arith)
+    first-none 8 (a .order) (a .words .now) (a .sought) (a .k) (a .head .0) (a .n) (omega arith) (at-call .before .sought-in .ensures) (at-call .zeros-end .result .0) (at-call .zeros-end .ensures) (omega arith)
 
 pub first-in-word-spec : {M : Type 1} → statement M
 first-in-word-spec =
     tie.close
-    (tie.spec returns sought-in-requires first-index-requires sub-result returns-2 returns-3)
+    (tie.spec returns sought-in-requires zeros-end-requires sub-result returns-2 returns-3)

@@ -9,20 +9,20 @@ use Rattle.word64.proofs.zeros.last_end.Tie as tie
 enum-told : tie.Need-enum-told
 enum-told c = search needs
 
-cast-result : tie.Need-cast-result
-cast-result c = omega (arith, leading-le 64 (c .before .before .args .word))
+cast-t5 : tie.Need-cast-t5
+cast-t5 c = omega (arith, leading-le 64 (c .before .before .args .word))
 
-sub-result : tie.Need-sub-result
-sub-result c = omega (arith, leading-le 64 (c .before .before .args .word))
+sub-t6 : tie.Need-sub-t6
+sub-t6 c = omega (arith, leading-le 64 (c .before .before .args .word))
 
 enum-told-2 : tie.Need-enum-told-2
 enum-told-2 c = search needs
 
-cast-result-2 : tie.Need-cast-result-2
-cast-result-2 c = omega (arith, trailing-le 64 (c .before .before .args .word))
+cast-t8 : tie.Need-cast-t8
+cast-t8 c = omega (arith, trailing-le 64 (c .before .before .args .word))
 
-sub-result-2 : tie.Need-sub-result-2
-sub-result-2 c = omega (arith, trailing-le 64 (c .before .before .args .word))
+sub-t9 : tie.Need-sub-t9
+sub-t9 c = omega (arith, trailing-le 64 (c .before .before .args .word))
 
 returns : tie.Need-returns
 returns c = last-lsb0 64 _ (search needs) (search needs)
@@ -35,10 +35,10 @@ last-end-spec =
     tie.close
     (tie.spec
     enum-told
-    cast-result
-    sub-result
+    cast-t5
+    sub-t6
     enum-told-2
-    cast-result-2
-    sub-result-2
+    cast-t8
+    sub-t9
     returns
     returns-2)
