@@ -103,7 +103,7 @@ fn joined_next(words: &mut [u64], order: Order, h: usize, b: usize, k: usize)
     let mut i: usize = k;
     while 0 < i {
         let at = b + i;
-        words[at] = joined(order, h, words[at - 1], words[at]);
+        words[at] = joined(order, Index(h), words[at - 1], words[at]);
         i = i - 1;
     }
 }

@@ -1,7 +1,6 @@
 -- The third demand at the width of these words: of the rules, and of every run of `perform`, each step of which keeps the promise that its source
 -- states. Assumes nothing.
 use Prim.Native.Nat.{ℕ}
-use mathlib.Core.Path.{_≡_}
 use mathlib.Core.List.{List, map}
 use denote.Ref.{now}
 use lib.Dec.{lit<}

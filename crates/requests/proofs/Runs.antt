@@ -1,15 +1,13 @@
 -- A run of the code is a mixture of the isolation theorem: its replies say what the mixture is answered, its buffers are the mixture's. So two
 -- parties that own separate positions are undisturbed by any function that keeps the promise of `perform`. Assumes nothing.
-use Prim.Native.Nat.{ℕ, suc, _<_}
-use mathlib.Core.Path.{_≡_, refl, sym, _∙_, ap, ap₂, subst}
+use Prim.Native.Nat.{ℕ, _<_}
+use mathlib.Core.Path.{_≡_, refl, sym, _∙_, ap, ap₂}
 use mathlib.Core.List.{List, [], _∷_, map}
-use native.Mathlib.Omega.{arith}
 use lib.ListN.{length}
 use Rattle.rules.specs.Bits.{bitAt}
-use Rattle.rules.specs.Refusals.{number}
 use Rattle.rules.specs.Calls.{Answer, refused, answer, after}
 use Rattle.rules.specs.Answers.{Gives}
-use Rattle.rules.specs.Mixtures.{Party, one, two, Of, of, hers, All, answers, final, mixed-answers, mixed-final, Asked, call, no-call, told, left, Separate, Within}
+use Rattle.rules.specs.Mixtures.{Party, one, two, Of, of, hers, All, answers, final, mixed-answers, mixed-final, told, left, Separate, Within}
 use Rattle.rules.proofs.Isolation.{isolation, isolation-from}
 use Rattle.requests.specs.declared.Request.{Request}
 use Rattle.requests.specs.declared.Reply.{Reply}

@@ -193,9 +193,6 @@ not-lt = ones-sub-lt
 pub bit-ones : (n j : ℕ) → j < n → bitN (2 ^ n - 1) j ≡ 1
 bit-ones n j h = ap (λ (x : ℕ). bitN x j) (sym (sub-zero (2 ^ n - 1))) ∙ bit-not n 0 j (pow-pos n) h ∙ ap (λ (x : ℕ). 1 - x) (bit-of-zero j)
 
-pub bit-ones-above : (n j : ℕ) → n ≤ j → bitN (2 ^ n - 1) j ≡ 0
-bit-ones-above n j h = bit-small (2 ^ n - 1) n j (ones-lt n) h
-
 -- the mask of n bits from k on
 pub bit-mask : (n k j : ℕ) → k ≤ j → j < k + n → bitN ((2 ^ n - 1) * 2 ^ k) j ≡ 1
 bit-mask n k j l h =

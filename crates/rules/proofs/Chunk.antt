@@ -1,6 +1,6 @@
 -- A run of bits moved as one number. With le for Lsb0 and be for Msb0 what a bit weighs does not depend on where the words end, so what is
 -- loaded at one place may be stored at another, and an operation on two such numbers is one on each pair of bits. Assumes nothing.
-use mathlib.Core.Path.{_≡_, refl, sym, ap, ap₂, _∙_}
+use mathlib.Core.Path.{_≡_, sym, ap, _∙_}
 use mathlib.Core.Logic.{_⊎_, inl, inr}
 use mathlib.Core.List.{List}
 use Prim.Native.Nat.{ℕ, _+_, _-_, _*_, _%_, _^_, _≤_, _<_, min, max}
@@ -11,46 +11,18 @@ use lib.Pow.{pow-pos, ones-lt, shl-lt, pow-mono}
 use lib.Bits.{bitAnd, bitOr, bitXor, differ, and-lt, or-lt}
 use Rattle.rules.specs.Types.{Order, Lsb0, Msb0, Significance, Le, Be}
 use Rattle.rules.specs.Bits.{bitN}
-use Rattle.rules.specs.Positions.{row, position, spliced}
-use Rattle.rules.specs.Fields.{exponent, loadOf, storeOf}
+use Rattle.rules.specs.Positions.{position}
+use Rattle.rules.specs.Fields.{exponent, storeOf}
 use Rattle.rules.specs.Rows.{applied}
 use Rattle.rules.proofs.Bit.{bit-lt, bit-bit, bit-and, bit-or, bit-xor, bit-cases, bit-not, not-lt, bit-mask, bit-mask-below, bit-mask-above, bit-mod, bit-shl, bit-shl-low, bit-small}
 use Rattle.rules.proofs.Row.{Words, position-renumbers}
-use Rattle.rules.proofs.Splice.{splice-eq}
-use Rattle.rules.proofs.Field.{load-bit, lowest, exponent-one, exponent-renumbers}
+use Rattle.rules.proofs.Field.{lowest, exponent-one, exponent-renumbers}
 use Rattle.rules.proofs.Word.{set-is-spliced}
 
 -- the significance that goes with an order
 unfoldable pub own : Order → Significance
 own Lsb0 = Le
 own Msb0 = Be
-
-pub exponent-own : (W : ℕ) (o : Order) (s t n i : ℕ) → exponent W o (own o) s n i ≡ exponent W o (own o) t n i
-unfolding own exponent
-exponent-own W Lsb0 s t n i = refl
-exponent-own W Msb0 s t n i = refl
-
--- bit i of a chunk, read with the exponents of another place
-pub chunk-bit : (W : ℕ) → 0 < W → (o : Order) (ws : List ℕ) (s t n i : ℕ) → i < n
-    → bitN (loadOf W o (own o) ws s n) (exponent W o (own o) t n i) ≡ row W o ws (s + i)
-chunk-bit W pos o ws s t n i h = ap (bitN (loadOf W o (own o) ws s n)) (exponent-own W o t s n i) ∙ load-bit W pos o (own o) ws s n i h
-
--- loaded there and stored here: the bits there
-pub store-chunk : (W : ℕ) → 0 < W → (o : Order) (ws vs : List ℕ) (s t n : ℕ)
-    → storeOf W o (own o) ws t n (loadOf W o (own o) vs s n) ≡ spliced W o ws t n (λ i. row W o vs (s + i))
-unfolding storeOf
-store-chunk W pos o ws vs s t n =
-    splice-eq W pos o ws t n (λ i. bitN (loadOf W o (own o) vs s n) (exponent W o (own o) t n i)) (λ i. row W o vs (s + i)) (chunk-bit W pos o vs s t n)
-
--- a number x whose bits are an operation on the bits of two chunks, stored here: the operation on each pair of bits
-pub store-op : (W : ℕ) → 0 < W → (o : Order) (ws vs : List ℕ) (s t n x op : ℕ)
-    → ((k : ℕ) → k < n → bitN x k ≡ applied op (bitN (loadOf W o (own o) ws t n) k) (bitN (loadOf W o (own o) vs s n) k))
-    → storeOf W o (own o) ws t n x ≡ spliced W o ws t n (λ i. applied op (row W o ws (t + i)) (row W o vs (s + i)))
-unfolding storeOf
-store-op W pos o ws vs s t n x op same =
-    splice-eq W pos o ws t n (λ i. bitN x (exponent W o (own o) t n i)) (λ i. applied op (row W o ws (t + i)) (row W o vs (s + i)))
-    (λ i l. same (exponent W o (own o) t n i) (exponent-renumbers W pos t n o (own o) .below i l)
-    ∙ ap₂ (applied op) (chunk-bit W pos o ws t t n i l) (chunk-bit W pos o vs s t n i l))
 
 -- the three operations of document 01 are those of words
 applied-and : (a b : ℕ) → (a ≡ 0) ⊎ (a ≡ 1) → (b ≡ 0) ⊎ (b ≡ 1) → min a b ≡ applied 8 a b

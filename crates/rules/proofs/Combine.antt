@@ -6,7 +6,7 @@ use mathlib.Core.List.{List}
 use Prim.Native.Nat.{ℕ, zero, suc, _+_, _-_, _*_, _/_, _%_, _^_, _≤_, _<_, min}
 use native.Mathlib.Nat.{add-assoc, add-mul}
 use native.Mathlib.Omega.{arith}
-use lib.ListN.{length, getD, take, drop}
+use lib.ListN.{length, getD}
 use lib.Dec.{ltb}
 use borrow.Author.Tests.{lt-ltb, le-ltb}
 use lib.Bits.{bitAnd, bitOr, bitXor, and-lt, or-lt, xor-lt}
@@ -17,7 +17,7 @@ use Rattle.rules.specs.Bits.{bitN, ofBits}
 use Rattle.rules.specs.Positions.{position, row, spliced}
 use Rattle.rules.specs.Rows.{applied}
 use Rattle.rules.proofs.Bit.{bit-lt, bit-bit, bit-cases, bit-of-zero, bit-ones}
-use Rattle.rules.proofs.Digits.{bit-ofBits, ofBits-is, ofBits-lt, ofBits-ext}
+use Rattle.rules.proofs.Digits.{bit-ofBits, ofBits-is, ofBits-ext}
 use Rattle.rules.proofs.Row.{Words, row-at, row-bit, position-lt, position-twice}
 use Rattle.rules.proofs.Splice.{splice-eq, spliced-past}
 use Rattle.rules.proofs.Chunk.{and-applied, or-applied, xor-applied}
@@ -156,9 +156,6 @@ pub right-word : (W : ℕ) (o : Order) (vs : List ℕ) (s i : ℕ) {y : ℕ} →
 unfolding wordOn
 right-word W o vs s i e p l =
     ap (λ (x : ℕ). bitN x p) e ∙ bit-ofBits W (λ p. row W o vs (s + (i * W + position W o p))) p l ∙ row-bit W o vs (s + (i * W + position W o p))
-
-pub none-carried : (W : ℕ) (o : Order) (h n : ℕ) → Carries W o 0 h n (λ _. 0)
-none-carried W o h n i l = bit-of-zero (position W o (h + i))
 
 -- ---- a right side that ends: n bits of b, and none after them
 

@@ -1,11 +1,11 @@
 -- A field cut where words end: its pieces as numbers, how they are joined and taken apart by the significance of the first, and a load and a
 -- store by such a cut, le and be as one statement. Assumes nothing.
-use mathlib.Core.Path.{_≡_, refl, sym, ap, ap₂, _∙_}
+use mathlib.Core.Path.{_≡_, refl, sym, ap, _∙_}
 use mathlib.Core.List.{List}
-use Prim.Native.Nat.{ℕ, zero, suc, _+_, _-_, _*_, _/_, _%_, _^_, _≤_, _<_}
-use native.Mathlib.Nat.{mod-lt, add-zero, add-mul, one-mul, div-one, div-add-mod'}
+use Prim.Native.Nat.{ℕ, _+_, _-_, _*_, _/_, _%_, _^_, _≤_, _<_}
+use native.Mathlib.Nat.{mod-lt, div-one, div-add-mod'}
 use native.Mathlib.Omega.{arith}
-use lib.ListN.{length, getD, set}
+use lib.ListN.{length, getD}
 use lib.Pow.{pow-pos, field, shl-shr, shr-shr}
 use Rattle.rules.specs.Types.{Order, Significance, Le, Be}
 use Rattle.rules.specs.Bits.{bitN}
@@ -41,10 +41,6 @@ pub record Cuts (W head len first whole last : ℕ) : Type 0 where
   pub edge : first < len → head + first ≡ W
   pub all : first + whole * W + last ≡ len
   pub rest : last < W
-
-pub cut-one : (W head len : ℕ) → 1 ≤ len → len ≤ W - head → head < W → Cuts W head len len 0 0
-cut-one W head len some fits h =
-    record { some = some; within = omega arith; edge = λ l. absurd (omega arith); all = omega arith; rest = omega arith }
 
 pub cut-more : (W head len : ℕ) → head < W → W - head < len → Cuts W head len (W - head) ((len - (W - head)) / W) ((len - (W - head)) % W)
 cut-more W head len h more =

@@ -1,9 +1,9 @@
 -- What document 01 says of fields, as theorems on the promised functions `answer` and `after`: a stored field loads back, a strictly stored one
 -- exactly; storing a loaded field changes nothing; a store changes no bit outside its span; bit i weighs what it says. Assumes nothing.
-use mathlib.Core.Path.{_≡_, refl, sym, ap, ap₂, _∙_}
-use mathlib.Core.Bool.{Bool, true, false, not, cond}
-use mathlib.Core.List.{List, [], _∷_, _++_}
-use Prim.Native.Nat.{ℕ, zero, suc, _+_, _-_, _*_, _/_, _%_, _^_, _≤_, _<_}
+use mathlib.Core.Path.{_≡_, refl, sym, ap, _∙_}
+use mathlib.Core.Bool.{true, false, not}
+use mathlib.Core.List.{List, [], _∷_}
+use Prim.Native.Nat.{ℕ, _+_, _-_, _*_, _%_, _^_, _≤_, _<_}
 use native.Mathlib.Nat.{mod-eq-of-lt, lt-of-lt-of-le}
 use native.Mathlib.Omega.{arith}
 use lib.ListN.{length, getD}
@@ -11,17 +11,17 @@ use lib.IntN.{ℤ, pos, negsuc}
 use lib.Pow.{pow-mono}
 use lib.Signed.{mag}
 use borrow.Author.Tests.{lt-ltb}
-use Rattle.rules.specs.Types.{Order, Lsb0, Msb0, Span, Significance, Le, Be, Sign, Unsigned, Signed, NotAnInteger, Verdict, Fine, Refused}
-use Rattle.rules.specs.Bits.{bitN, bitAt}
+use Rattle.rules.specs.Types.{Lsb0, Msb0, Span, Significance, Le, Be, Sign, Unsigned, Signed, NotAnInteger, Verdict, Fine, Refused}
+use Rattle.rules.specs.Bits.{bitN}
 use Rattle.rules.specs.Positions.{start, spanBit}
 use Rattle.rules.specs.Fields.{exponent, loadOf, readAs, signedOf, bitsOf, storeOf, isInteger}
 use Rattle.rules.specs.Refusals.{verdict, _when_, spanCases, fieldCases, valueCases, fittingCases, loadCases, storeCases, strictCases}
-use Rattle.rules.specs.Calls.{Answer, done, a-number, said, unless, Call, load, store, strictStore, spanCovers, cases, answer!, after!, answer, after, writes!, writes}
+use Rattle.rules.specs.Calls.{Answer, done, a-number, said, Call, load, store, strictStore, spanCovers, cases, answer!, after!, answer, after, writes!}
 use Rattle.rules.proofs.Row.{Words}
 use Rattle.rules.proofs.Field.{load-lt, load-bit, store-load, store-low}
-use Rattle.rules.proofs.Signed.{signed-range, signed-low, fits-returned}
+use Rattle.rules.proofs.Signed.{signed-range, signed-low}
 use Rattle.rules.proofs.Tables.{Inside, fine-parts, goes, last-clear}
-use Rattle.rules.proofs.Accepted.{Sized, fine-load, fine-store, fine-strict}
+use Rattle.rules.proofs.Accepted.{fine-load, fine-store, fine-strict}
 use Rattle.rules.proofs.Sentences.{fine-of-done, accepted-call, stored-loaded, strictly-stored}
 use Rattle.rules.proofs.Footprints.{beside, length-after}
 

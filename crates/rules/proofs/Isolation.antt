@@ -95,16 +95,6 @@ module _ (W : ℕ) (wide : 0 < W) where
   }
 
   -- anywhere in a list of calls: the buffer at the end is the same, and so are all answers, the two having changed places
-  words-final : (s : List Call) (ws : List ℕ) → Words W ws → Words W (final (answer W) (after W) s ws)
-  unfolding final
-  words-final [] ws h = h
-  words-final (c ∷ s) ws h = words-final s (after W c ws) (words-after W wide c ws h)
-
-  length-final : (s : List Call) (ws : List ℕ) → length (final (answer W) (after W) s ws) ≡ length ws
-  unfolding final
-  length-final [] ws = refl
-  length-final (c ∷ s) ws = length-final s (after W c ws) ∙ length-after W wide c ws
-
   pub neighbours-final : (s t : List Call) (c d : Call) (ws : List ℕ) → Words W ws → FreeOf (length ws) c d
       → final (answer W) (after W) (s ++ c ∷ d ∷ t) ws ≡ final (answer W) (after W) (s ++ d ∷ c ∷ t) ws
   unfolding final

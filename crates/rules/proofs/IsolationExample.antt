@@ -12,7 +12,7 @@ use Rattle.rules.specs.Positions.{position, mirror, row, fromRow, start,
 use Rattle.rules.specs.Fields.{exponent, weigh, loadOf, readAs, bitsOf, storeOf, isSize, isInteger, fits}
 use Rattle.rules.specs.Rows.{moved, copiedInside, applied, rightBit, combined, sameBits, sameSpans, firstWith}
 use Rattle.rules.specs.Refusals.{verdict, spanCases, fieldCases, valueCases, fittingCases, bitCases, loadCases, storeCases, strictCases, pairCases, insideCases}
-use Rattle.rules.specs.Calls.{refused, done, a-number, says-yes, found-at, here, Call, readBit, load, store, strictStore, copyInside, combine, equal, findFirst, spanCovers, cases, answer!, after!, reads!, writes!, answer, after}
+use Rattle.rules.specs.Calls.{refused, done, a-number, says-yes, found-at, here, readBit, load, store, strictStore, copyInside, combine, equal, findFirst, spanCovers, cases, answer!, after!, reads!, writes!, answer, after}
 use Rattle.rules.specs.Mixtures.{Party, one, two, Of, of, All, mixed-answers, mixed-final, Asked, call, told, left, Separate, Within, Isolated}
 use Rattle.rules.specs.Samples.{at-head}
 use Rattle.rules.proofs.Spans.{within-low, within-high, covers-part}

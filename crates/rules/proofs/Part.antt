@@ -8,10 +8,9 @@ use lib.ListN.{length, getD, take, drop, length-drop, List·getD-append}
 use lib.Seq.{getD-take, getD-drop, getD-append-add, length-take-le}
 use borrow.Rule.Slice.PartMut.{putMid, midOf, postOf, same-len-mid}
 use Rattle.rules.specs.Types.{Order}
-use Rattle.rules.specs.Bits.{bitN, ofBits}
+use Rattle.rules.specs.Bits.{bitN}
 use Rattle.rules.specs.Positions.{position, row, fromRow, spliced}
-use Rattle.rules.proofs.Row.{Words, row-is, row-fromRow, length-fromRow, words-fromRow, getD-fromRow, fromRow-ext}
-use Rattle.rules.proofs.Digits.{ofBits-lt}
+use Rattle.rules.proofs.Row.{Words, row-is, row-fromRow, length-fromRow, words-fromRow, fromRow-ext}
 use Rattle.rules.proofs.Splice.{At, before, inside, past, side, is-spliced-parts}
 
 getD-past : (xs ys : List ℕ) (i n : ℕ) → length xs ≡ n → n ≤ i → getD (xs ++ ys) i 0 ≡ getD ys (i - n) 0
@@ -95,21 +94,3 @@ module _ (W : ℕ) (pos : 0 < W) (o : Order) where
       ∙ fromRow-ext W pos o k (λ j. row W o (take m (drop b src)) (h + j)) (λ j. row W o src (b * W + h + j))
       (λ j q. ap (λ (x : ℕ). x % 2) (row-part src b m (h + j) (omega arith) ∙ ap (row W o src) (omega arith)))
       ∙ ap (λ (x : ℕ). fromRow W o x (λ j. row W o src (b * W + h + j))) (sym len))
-
-  -- k words from the a-th on replaced, one by one: a loop over whole words, in a second buffer or in place
-  pub words-splice : (ws l : List ℕ) (a k : ℕ) (b : ℕ → ℕ) → length l ≡ length ws → Words W ws
-      → ((m : ℕ) → m < k → getD l (a + m) 0 ≡ ofBits W (λ p. b (m * W + position W o p)))
-      → ((m : ℕ) → m < a → getD l m 0 ≡ getD ws m 0) → ((m : ℕ) → a + k ≤ m → getD l m 0 ≡ getD ws m 0)
-      → l ≡ spliced W o ws (a * W) (k * W) b
-  words-splice ws l a k b e words new low high =
-      is-spliced-parts W pos o ws (a * W) (k * W) b l e (λ m. go m (side a k m))
-      (λ i h. same-bit W pos o l (fromRow W o k b) (a * W + i) i
-      (ap (λ (m : ℕ). getD l m 0) (mul-add-div-right pos a i) ∙ new (i / W) (div-lt-iff-lt-mul pos .1 h) ∙ sym (getD-fromRow W o k b (i / W) (div-lt-iff-lt-mul pos .1 h)))
-      (mul-add-mod-self-right a W i) ∙ row-fromRow W pos o k b i h)
-      (λ j h. same-bit W pos o l ws j j (low (j / W) (div-lt-iff-lt-mul pos .1 h)) refl)
-      (λ j h q. same-bit W pos o l ws j j (high (j / W) (le-div-iff-mul-le pos .1 (omega (arith, add-mul a k W)))) refl)
-    where
-      go : (m : ℕ) → At a k m → getD l m 0 < 2 ^ W
-      go m (before h) = rw (low m h) (words m)
-      go m (inside i h p) = rw (← p) (rw (new i h) (ofBits-lt W (λ p. b (i * W + position W o p))))
-      go m (past h) = rw (high m h) (words m)

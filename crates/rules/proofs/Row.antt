@@ -42,20 +42,12 @@ pub mirror-at : (W : ℕ) (o : Order) (k i : ℕ) → i < W → mirror W o (k * 
 unfolding mirror
 mirror-at W o k i h = ap₂ (λ (x y : ℕ). x * W + position W o y) (digits-div k h) (digits-mod k h)
 
-pub mirror-lsb0 : (W j : ℕ) → mirror W Lsb0 j ≡ j
-unfolding mirror position
-mirror-lsb0 W j = div-add-mod' j W
-
 module _ (W : ℕ) (pos : 0 < W) (o : Order) where
   pub mirror-twice : (j : ℕ) → mirror W o (mirror W o j) ≡ j
   mirror-twice j =
       ap (λ (x : ℕ). mirror W o (mirror W o x)) (sym (div-add-mod' j W)) ∙ ap (mirror W o) (mirror-at W o (j / W) (j % W) (mod-lt j pos))
       ∙ mirror-at W o (j / W) (position W o (j % W)) (position-lt W o (j % W) (mod-lt j pos))
       ∙ ap (λ (x : ℕ). j / W * W + x) (position-twice W o (j % W) (mod-lt j pos)) ∙ div-add-mod' j W
-
-  pub mirror-word : (j : ℕ) → mirror W o j / W ≡ j / W
-  unfolding mirror
-  mirror-word j = digits-div (j / W) (position-lt W o (j % W) (mod-lt j pos))
 
   pub mirror-lt : (n j : ℕ) → j < n * W → mirror W o j < n * W
   unfolding mirror
@@ -168,11 +160,6 @@ module _ (W : ℕ) (pos : 0 < W) (o : Order) where
 
   pub fromRow-row : (ws : List ℕ) → Words W ws → fromRow W o (length ws) (row W o ws) ≡ ws
   fromRow-row ws words = sym (is-fromRow (length ws) (row W o ws) ws refl words (λ j h. sym (row-bit W o ws j)))
-
-  -- two lists of as many words are one when their rows are
-  pub rows-ext : (xs ys : List ℕ) → length xs ≡ length ys → Words W xs → Words W ys → ((j : ℕ) → j < length ys * W → row W o xs j ≡ row W o ys j) → xs ≡ ys
-  rows-ext xs ys e wx wy same =
-      is-fromRow (length ys) (row W o ys) xs e wx (λ j h. same j h ∙ sym (row-bit W o ys j)) ∙ fromRow-row ys wy
 
   -- a list given word by word
   pub fromRow-words : (n : ℕ) (g : ℕ → ℕ) (l : List ℕ) → length l ≡ n → ((k : ℕ) → k < n → getD l k 0 ≡ ofBits W (λ p. g (k * W + position W o p))) → l ≡ fromRow W o n g

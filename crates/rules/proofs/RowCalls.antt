@@ -1,18 +1,17 @@
 -- The calls on rows: answer and memory from a verdict and from the row that code leaves. Assumes nothing.
-use Prim.Native.Nat.{ℕ, _+_, _-_, _*_, _≤_, _<_, min}
+use Prim.Native.Nat.{ℕ, _+_, _-_, _*_, _≤_, _<_}
 use mathlib.Core.Path.{_≡_, refl, sym, _∙_, ap, ap₂}
-use mathlib.Core.Bool.{Bool, true, false, _&&_, cond}
+use mathlib.Core.Bool.{Bool, _&&_, cond}
 use mathlib.Core.List.{List}
 use native.Mathlib.Decide.{decLt}
 use native.Mathlib.Omega.{arith}
 use lib.ListN.{length}
-use lib.Dec.{eqb}
 use borrow.Author.Tests.{eq-eqb, ne-eqb}
-use Rattle.rules.specs.Types.{Order, Span, Refusal, Verdict, Fine, Refused, Done, Write·Refused}
+use Rattle.rules.specs.Types.{Order, Span, Refusal, Fine, Refused, Done, Write·Refused}
 use Rattle.rules.specs.Positions.{row, start, spanBit, spliced}
 use Rattle.rules.specs.Rows.{copied, moved, copiedInside, applied, rightBit, combined, sameBits, sameSpans}
 use Rattle.rules.specs.Refusals.{number, verdict, pairCases, copyCases, insideCases}
-use Rattle.rules.specs.Calls.{Answer, refused, done, says-yes, says-no, said, unless, Call, Side, here, there, copyBetween, copyInside, combine, equal, cases, answer!, after!, answer, after, swapVerdict, swapAnswer, swapLeft, swapRight}
+use Rattle.rules.specs.Calls.{Answer, refused, done, says-yes, says-no, Call, here, there, copyBetween, copyInside, combine, equal, cases, answer!, after!, answer, after, swapVerdict, swapAnswer, swapLeft, swapRight}
 use Rattle.rules.specs.Answers.{writeSays, Gives}
 use Rattle.rules.proofs.Accepted.{fine-pair, fine-copy}
 use Rattle.rules.proofs.Splice.{splice-eq}

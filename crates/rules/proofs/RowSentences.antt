@@ -1,6 +1,6 @@
 -- What document 01 says of rows, as theorems on the promised functions: an answer that is no refusal tells that the request was accepted, and
 -- with that each bit. Copy between, copy inside, boolean, swap, equal. Assumes nothing.
-use mathlib.Core.Path.{_≡_, refl, sym, ap, ap₂, _∙_}
+use mathlib.Core.Path.{_≡_, refl, sym, ap, _∙_}
 use mathlib.Core.Bool.{Bool, true, false, cond}
 use mathlib.Core.List.{List}
 use Prim.Native.Nat.{ℕ, _+_, _*_, _≤_, _<_}
@@ -9,13 +9,13 @@ use lib.ListN.{length, getD}
 use Rattle.rules.specs.Types.{Span, Verdict, Fine, Refused}
 use Rattle.rules.specs.Bits.{bitN, bitAt}
 use Rattle.rules.specs.Positions.{start, spanBit, covers}
-use Rattle.rules.specs.Rows.{copied, copiedInside, applied, rightBit, combined, sameSpans}
-use Rattle.rules.specs.Refusals.{verdict, pairCases, copyCases, insideCases}
-use Rattle.rules.specs.Calls.{Answer, done, says-yes, says-no, said, unless, Side, here, there, wordsOf, lentOf, Call, copyBetween, copyInside, combine, equal, spanCovers, cases, answer!, after!, answer, after, writes!, swapVerdict, swapAnswer, swapLeft, swapRight}
+use Rattle.rules.specs.Rows.{copied, applied, rightBit, combined, sameSpans}
+use Rattle.rules.specs.Refusals.{verdict, pairCases}
+use Rattle.rules.specs.Calls.{done, says-yes, says-no, said, unless, Side, wordsOf, lentOf, copyBetween, copyInside, combine, equal, spanCovers, cases, answer!, after!, answer, after, writes!, swapVerdict, swapAnswer, swapLeft, swapRight}
 use Rattle.rules.proofs.Row.{bitAt-at}
 use Rattle.rules.proofs.Splice.{splice-eq}
 use Rattle.rules.proofs.Tables.{Inside}
-use Rattle.rules.proofs.Accepted.{Copy, Pair, Move, fine-pair, fine-copy, fine-move}
+use Rattle.rules.proofs.Accepted.{Copy, fine-pair, fine-copy, fine-move}
 use Rattle.rules.proofs.Sentences.{done-fine, fine-of-done, accepted-call, accepted-swap, copy-bit, inside-bit, combine-bit, right-here, right-past, equal-yes, yes-equal}
 use Rattle.rules.proofs.Footprints.{beside, spliced-outside}
 

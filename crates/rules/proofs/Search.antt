@@ -84,19 +84,6 @@ first-free (suc n) b v i h = go (eqb (b 0) v) refl (first-free n (λ i. b (suc i
     go false e ih zero l = eqb-false (b 0) v e
     go false e ih (suc i) l = ih i (le-of-suc-le-suc l)
 
--- a run in two parts
-pub first-found : (k n : ℕ) (b : ℕ → ℕ) (v : ℕ) → firstWith k b v < k → firstWith k b v ≡ firstWith (k + n) b v
-first-found k n b v h = first-is (k + n) b v (firstWith k b v) (omega arith) (first-free k b v) (λ l. first-here k b v h)
-
-pub first-beyond : (k n : ℕ) (b : ℕ → ℕ) (v : ℕ) → firstWith k b v ≡ k → k + firstWith n (λ i. b (k + i)) v ≡ firstWith (k + n) b v
-first-beyond k n b v e =
-    first-is (k + n) b v (k + firstWith n (λ i. b (k + i)) v) (omega (arith, first-le n (λ i. b (k + i)) v)) (λ i l. free i l (decLt i k))
-    (λ l. first-here n (λ i. b (k + i)) v (omega arith))
-  where
-    free : (i : ℕ) → i < k + firstWith n (λ i. b (k + i)) v → Dec (i < k) → b i ≢ v
-    free i l (yes m) = first-free k b v i (rw e m)
-    free i l (no m) = let q : k + (i - k) ≡ i = omega arith in rw q at (first-free n (λ i. b (k + i)) v (i - k) (omega arith))
-
 -- ---- the counts of zeros are searches
 
 pub first-trailing : (k x : ℕ) → trailingZeros k x ≡ firstWith k (λ i. bitN x i) 1
@@ -150,13 +137,6 @@ last-free (suc n) b v i h l = go (eqb (b n) v) refl (last-free n b v i) h (eq-or
     go true e ih p q = absurd (omega arith)
     go false e ih p (inl q) = λ r. eqb-false (b n) v e (ap b (sym q) ∙ r)
     go false e ih p (inr q) = ih p q
-
--- a run in two parts
-pub last-found : (k n : ℕ) (b : ℕ → ℕ) (v : ℕ) → 0 < lastWith n (λ i. b (k + i)) v → k + lastWith n (λ i. b (k + i)) v ≡ lastWith (k + n) b v
-last-found k n b v h =
-    last-is (k + n) b v (k + lastWith n (λ i. b (k + i)) v) (omega (arith, last-le n (λ i. b (k + i)) v))
-    (λ i l m. let q : k + (i - k) ≡ i = omega arith in rw q at (last-free n (λ i. b (k + i)) v (i - k) (omega arith) (omega arith)))
-    (λ i p. let q : k + (i - k) ≡ i = omega arith in rw q at (last-here n (λ i. b (k + i)) v (i - k) (omega arith)))
 
 pub last-beyond : (k n : ℕ) (b : ℕ → ℕ) (v : ℕ) → lastWith n (λ i. b (k + i)) v ≡ 0 → lastWith k b v ≡ lastWith (k + n) b v
 last-beyond k n b v e =

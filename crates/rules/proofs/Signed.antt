@@ -65,10 +65,6 @@ signed-is K n (negsuc a) p l h =
     let f : 2 ^ n - 1 - (2 ^ n - 1 - a) ≡ a = omega (arith, t) in
     rw (g, le-ltb (2 ^ n - 1 - a) (2 ^ (n - 1)) (omega (arith, t)), f)
 
--- so a number is returned by a store and a signed load exactly if it is in the range
-pub signed-returned : (K n : ℕ) (z : ℤ) → 0 < n → signedOf n (bitsOf K z % 2 ^ n) ≡ z → mag z < 2 ^ (n - 1)
-signed-returned K n z p e = rw e at (signed-range n (bitsOf K z % 2 ^ n) p (mod-lt (bitsOf K z) (pow-pos n)))
-
 -- what strict store takes, a load of the same sign returns
 pub fits-returned : (K n : ℕ) (g : Sign) (z : ℤ) → 0 < n → n ≤ K → fits n g z ≡ true → readAs g n (bitsOf K z % 2 ^ n) ≡ z
 unfolding fits readAs bitsOf

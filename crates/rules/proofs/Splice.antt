@@ -12,7 +12,7 @@ use lib.ListN.{length}
 use borrow.Author.Tests.{le-leb, lt-leb, lt-ltb, le-ltb}
 use Rattle.rules.specs.Types.{Order, Lsb0, Msb0}
 use Rattle.rules.specs.Positions.{row, within, over, spliced, position, mirror, fromRow}
-use Rattle.rules.proofs.Row.{Words, row-bit, row-fromRow, length-fromRow, words-fromRow, is-fromRow, fromRow-ext, fromRow-row, rows-ext}
+use Rattle.rules.proofs.Row.{Words, row-bit, row-fromRow, length-fromRow, words-fromRow, is-fromRow, fromRow-ext, fromRow-row}
 use Rattle.rules.specs.Bits.{bitN, ofBits, tabulate, bitAt, fromBits}
 
 -- the splice of three ones: no bit before it, none after it
@@ -88,15 +88,6 @@ over-swap s k t n b c g apart j = go (side s k j) (side t n j)
     go (past l) (inside i m p) =
         rw (← p) (over-inside t n c (over s k b g) i m ∙ sym (over-past s k b (over t n c g) (t + i) (omega arith) ∙ over-inside t n c g i m))
     go (past l) (past m) = over-past t n c (over s k b g) j m ∙ over-past s k b g j l ∙ sym (over-past s k b (over t n c g) j l ∙ over-past t n c g j m)
-
--- the same part twice: the later stands
-pub over-again : (s n : ℕ) (b c g : ℕ → ℕ) (j : ℕ) → over s n c (over s n b g) j ≡ over s n c g j
-over-again s n b c g j = go (side s n j)
-  where
-    go : At s n j → over s n c (over s n b g) j ≡ over s n c g j
-    go (before l) = over-before s n c (over s n b g) j l ∙ over-before s n b g j l ∙ sym (over-before s n c g j l)
-    go (inside i l p) = rw (← p) (over-inside s n c (over s n b g) i l ∙ sym (over-inside s n c g i l))
-    go (past l) = over-past s n c (over s n b g) j l ∙ over-past s n b g j l ∙ sym (over-past s n c g j l)
 
 -- the same bits, modulo 2
 pub over-ext : (s n : ℕ) (b c g : ℕ → ℕ) → ((i : ℕ) → i < n → b i % 2 ≡ c i % 2) → (j : ℕ) → over s n b g j % 2 ≡ over s n c g j % 2
@@ -188,21 +179,6 @@ module _ (W : ℕ) (pos : 0 < W) (o : Order) (ws : List ℕ) where
   splice-down s k n b =
       twice-is (s + k) n (λ i. b (k + i)) s k b s (k + n) b
       (λ j. sym (over-swap s k (s + k) n b (λ i. b (k + i)) (row W o ws) (omega arith) j) ∙ over-up s k n b (row W o ws) j)
-
-  pub splice-again : (s n : ℕ) (b c : ℕ → ℕ) → spliced W o (spliced W o ws s n b) s n c ≡ spliced W o ws s n c
-  splice-again s n b c = twice-is s n b s n c s n c (over-again s n b c (row W o ws))
-
-  pub splice-swap : (s k t n : ℕ) (b c : ℕ → ℕ) → s + k ≤ t → spliced W o (spliced W o ws s k b) t n c ≡ spliced W o (spliced W o ws t n c) s k b
-  splice-swap s k t n b c apart =
-      rows-ext W pos o (spliced W o (spliced W o ws s k b) t n c) (spliced W o (spliced W o ws t n c) s k b)
-      (len s k b t n c ∙ sym (len t n c s k b))
-      (words-spliced W o (spliced W o ws s k b) t n c)
-      (words-spliced W o (spliced W o ws t n c) s k b)
-      (λ j h. row-spliced-twice s k b t n c j (rw (len t n c s k b) at h) ∙ ap (λ (x : ℕ). x % 2) (over-swap s k t n b c (row W o ws) apart j)
-      ∙ sym (row-spliced-twice t n c s k b j (rw (len t n c s k b) at h)))
-    where
-      len : (s k : ℕ) (b : ℕ → ℕ) (t n : ℕ) (c : ℕ → ℕ) → length (spliced W o (spliced W o ws s k b) t n c) ≡ length ws
-      len s k b t n c = length-spliced W o (spliced W o ws s k b) t n c ∙ length-spliced W o ws s k b
 
   -- a splice is determined by the bits that it places
   pub splice-ext : (s n : ℕ) (b c : ℕ → ℕ) → ((i : ℕ) → i < n → b i % 2 ≡ c i % 2) → spliced W o ws s n b ≡ spliced W o ws s n c

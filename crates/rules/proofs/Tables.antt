@@ -9,7 +9,7 @@ use lib.Dec.{eqb}
 use Rattle.rules.specs.Types.{Order, Span, Refusal, TooManyWords, IndexTooLarge, OutOfBounds, NoSuchK, FieldLength, OrdersDiffer, LengthsDiffer, Verdict, Fine, Refused, Lsb0, Msb0, Unsigned, Signed, NotAnInteger, DoesNotFit, NotBelow}
 use Rattle.rules.specs.Positions.{inBounds}
 use Rattle.rules.specs.Fields.{isSize, isInteger, fits}
-use Rattle.rules.specs.Refusals.{Case, _when_, orElse, verdict, spanCases, fieldCases, maskCases, valueCases, fittingCases, strictCases, sameOrder, pairCases, copyCases, insideCases}
+use Rattle.rules.specs.Refusals.{Case, _when_, orElse, verdict, spanCases, fieldCases, maskCases, valueCases, fittingCases, strictCases, pairCases, copyCases, insideCases}
 use lib.IntN.{pos, negsuc}
 use Rattle.rules.specs.Samples.{at-head}
 

@@ -10,8 +10,8 @@ use lib.Dec.{ltb}
 use Rattle.rules.specs.Types.{Span, Refusal, Verdict, Fine, Refused}
 use Rattle.rules.specs.Rows.{sameSpans, firstWith, lastWith}
 use Rattle.rules.specs.Positions.{spanBit}
-use Rattle.rules.specs.Refusals.{Case, number, verdict, pairCases, copyCases}
-use Rattle.rules.specs.Calls.{Answer, refused, done, says-yes, says-no, found-at, absent, said, Side, here, there, wordsOf, lentOf, firstFound, lastFound, Call, readBit, writeBit, load, store, strictStore, copyBetween, copyInside, combine, equal, findFirst, findLast, cases, answer!, answer, swapVerdict, swapAnswer}
+use Rattle.rules.specs.Refusals.{number, verdict, pairCases, copyCases}
+use Rattle.rules.specs.Calls.{refused, done, says-yes, says-no, found-at, absent, said, Side, here, there, wordsOf, lentOf, firstFound, lastFound, Call, readBit, writeBit, load, store, strictStore, copyBetween, copyInside, combine, equal, findFirst, findLast, cases, answer!, answer, swapVerdict, swapAnswer}
 
 -- words with no bit set
 abbrev pub blank : List ℕ → List ℕ

@@ -6,7 +6,6 @@ use mathlib.Core.Bool.{Bool, true}
 use mathlib.Core.List.{List}
 use Rattle.rules.specs.Calls.{Answer}
 use Rattle.rules.specs.Mixtures.{no-call, told, left}
-use Rattle.rules.specs.declared.Span.{Span}
 use Rattle.stableply.specs.Border.{behind, kept, returned, written, foundFlag, foundIndex, ofRest, Told, Found, Rest, Wrote, Swapped}
 
 module _ (bad : Bool) (none : bad ≡ true) (a : Answer) where

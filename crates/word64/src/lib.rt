@@ -100,15 +100,6 @@ pub fn lead(at: usize, len: usize) -> usize
     if len < r { len } else { r }
 }
 
-// Of len bits up to place `end`, those after the last word's start, or all.
-pub fn tail(end: usize, len: usize) -> usize
-    requires { ⌜ len ≤ end ⌝ }
-    ensures { λ r. ⌜ (r ≤ len) × ((end - r) % 64 + r ≤ 64) × (r < len → (end - r) % 64 ≡ 0) ⌝ }
-{
-    let h = end % 64;
-    if h < len { h } else { len }
-}
-
 // n bits of a row from place s on, brought to the indexes from `head` on. Its other bits are any.
 pub fn fetch(source: &[u64], order: Order, s: usize, head: Index, n: usize) -> u64
     requires { ⌜ (1 ≤ n) × (head .0 + n ≤ 64) × (s + n ≤ length (now source) * 64) ⌝ }
