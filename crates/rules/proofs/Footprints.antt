@@ -1,4 +1,4 @@
--- Document 01's one-buffer calls obey the `Rules` of `Isolation`, at any width above 0 and any number of words. Assumes nothing.
+-- Document 01's one-buffer calls obey the `Rules` of `Parties`, at any width above 0 and any number of words. Assumes nothing.
 use Prim.Native.Nat.{ℕ, zero, suc, _+_, _-_, _*_, _%_, _<_}
 use mathlib.Core.Path.{_≡_, refl, sym, _∙_, ap, ap₂}
 use mathlib.Core.Bool.{Bool, true, false, _&&_, _||_, cond, true≢false, or-true}
