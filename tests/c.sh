@@ -15,16 +15,7 @@ stored=$root/examples/c/trace.stdout
 c11() { ${cross}gcc -std=c11 -O1 -g -Wall -Wextra -Werror -pedantic -I"$root/include" "$@"; }
 cxx17() { ${cross}g++ -std=c++17 -O1 -g -Wall -Wextra -Werror -pedantic -I"$root/include" "$@"; }
 prints() { run "$1" >"$work/stdout" && diff "$work/stdout" "$2"; }
-# watched NAME PROGRAM...: valgrind sees no error in the program. It runs those of its own machine alone.
-watched() {
-    name=$1
-    shift
-    if [ "$machine" = x86_64 ]; then
-        try "$name under valgrind" valgrind --quiet --error-exitcode=1 --leak-check=full "$@"
-    else
-        echo "left out on $machine, where valgrind runs no x86-64 program: $name under valgrind"
-    fi
-}
+watched() { valgrind --quiet --error-exitcode=1 --leak-check=full "$@"; }
 same_names() {
     grep -o 'stableply[0-9]*_[a-z_]*(' "$header" | tr -d '(' | sort -u >"$work/declared"
     ${cross}nm --defined-only --extern-only "$archive" | awk '$3 ~ /^stableply/ { print $3 }' | sort -u >"$work/exported"
@@ -45,11 +36,15 @@ try 'example compiles as C11' c11 "$example" "$archive" -o "$work/trace"
 try 'example compiles as C++17' cxx17 -x c++ "$example" -x none "$archive" -o "$work/trace++"
 try 'example from C prints what is stored' prints "$work/trace" "$stored"
 try 'example from C++ prints what is stored' prints "$work/trace++" "$stored"
-watched 'example' "$work/trace"
 try_pages c quick_start
 try 'canary test compiles' c11 "$root"/tests/c/*.c "$archive" -o "$work/canaries"
 try 'canary test' run "$work/canaries" 10000 4
-watched 'canary test' "$work/canaries" 250 0
+if [ "$machine" = x86_64 ]; then
+    try 'example under valgrind' watched "$work/trace"
+    try 'canary test under valgrind' watched "$work/canaries" 250 0
+else
+    echo "left out on $machine, where valgrind runs no x86-64 program: example under valgrind, canary test under valgrind"
+fi
 try 'fields to count compile' c11 "$root/compare/instructions/fields.c" "$archive" -o "$work/fields"
 try 'fields to count are accepted' run "$work/fields" store 8 1 64 1 0
 say_count
