@@ -6,16 +6,17 @@ set -u
 cd "$root" || exit 2
 
 build() {
-    (cd compare && cargo build --release --offline --locked)
+    (cd compare && STABLEPLY_LIB_DIR=$folder cargo build --release --offline --locked)
 }
-differential() {
-    (cd compare && STABLEPLY_LIB_DIR=$folder target/release/differential "$@")
+# program NAME ARGUMENTS...: runs one of compare's programs.
+program() {
+    (cd compare && run "target/${cargo_folder}release/$1" "${@:2}")
 }
 
 try "the oracle is the published Rust" bash oracle/check.sh
 try "the comparison builds" build
-try "wrong answers are found" differential self-test 1
-try "library, bitvec and rules agree" differential 5000000 1
-try "the stored answers are bitvec's" sh -c 'cd compare && target/release/vectors check ../vectors/answers.bin 4320 1'
-try "the benchmark runs" sh -c 'cd compare && target/release/bench quick'
+try "wrong answers are found" program differential self-test 1
+try "library, bitvec and rules agree" program differential 5000000 1
+try "the stored answers are bitvec's" program vectors check ../vectors/answers.bin 4320 1
+try "the benchmark runs" program bench quick
 say_count

@@ -1,7 +1,8 @@
-# For the test scripts beside it, which read it in: finds the archive, counts what is tried, and says the count last.
+# For the test scripts beside it, which read it in: finds the archive, knows the machine, counts what is tried, and says the count last.
 #
 # The archive's folder is the script's first argument; if not given, STABLEPLY_LIB_DIR, or else target/staticlib.
 root=$(cd "$(dirname "$0")/.." && pwd)
+. "$root/tests/machine.sh"
 folder=${1:-${STABLEPLY_LIB_DIR:-$root/target/staticlib}}
 if [ ! -f "$folder/libstableply.a" ]; then
     echo "$0: there is no libstableply.a in $folder: run 'rt staticlib stableply' in the project's root, or name its folder" >&2

@@ -4,7 +4,7 @@
 #
 #     tests/rust.sh [FOLDER]     FOLDER holds libstableply.a
 #
-# The last line is 'N passed, M failed'. Needs cargo and a C linker.
+# The last line is 'N passed, M failed'. Needs cargo and a C linker for x86-64.
 set -u
 . "$(dirname "$0")/counted.sh"
 unset STABLEPLY_LIB_DIR
@@ -24,7 +24,7 @@ try 'example prints what is stored for the C one' example_prints
 # page_runs PAGE: the page's programs in Rust run.
 page_runs() {
     awk '$0 == "```rust" { on = 1 } on { print } $0 == "```" { on = 0 }' "$1" >"$work/programs.md"
-    rustdoc --test --edition 2021 "$work/programs.md" --extern stableply="$work/strict/debug/libstableply.rlib"
+    rustdoc --test --edition 2021 $rustdoc_words "$work/programs.md" --extern stableply="$work/strict/${cargo_folder}debug/libstableply.rlib"
 }
 try_pages rust page_runs
 

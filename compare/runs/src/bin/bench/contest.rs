@@ -14,10 +14,12 @@ pub enum Who {
     Plain,
     Checked,
     Memory,
+    /// Plain Rust that takes eight bytes at once.
+    Eight,
 }
 
 impl Who {
-    pub const ALL: [Who; 5] = [Who::Library, Who::Bitvec, Who::Plain, Who::Checked, Who::Memory];
+    pub const ALL: [Who; 6] = [Who::Library, Who::Bitvec, Who::Plain, Who::Checked, Who::Memory, Who::Eight];
 }
 
 /// The words of a job. All contestants work on the same.

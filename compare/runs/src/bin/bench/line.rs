@@ -9,13 +9,23 @@ pub enum Part {
     KnownFields,
     ShortRows,
     Rows,
+    Inside,
+    Heads,
     Searches,
     FirstWord,
 }
 
 impl Part {
-    pub const ALL: [Part; 6] =
-        [Part::Fields, Part::KnownFields, Part::ShortRows, Part::Rows, Part::Searches, Part::FirstWord];
+    pub const ALL: [Part; 8] = [
+        Part::Fields,
+        Part::KnownFields,
+        Part::ShortRows,
+        Part::Rows,
+        Part::Inside,
+        Part::Heads,
+        Part::Searches,
+        Part::FirstWord,
+    ];
 
     /// Its title.
     pub fn title(self) -> &'static str {
@@ -24,6 +34,8 @@ impl Part {
             Part::KnownFields => "The same called from Rattle, order and significance known",
             Part::ShortRows => "Rows of 100 bits",
             Part::Rows => "Rows",
+            Part::Inside => "Copy inside 65,536 words, by the distance in bits",
+            Part::Heads => "Two rows of 65,536 words, by the heads of the left and the right one",
             Part::Searches => "Searches of sparse rows, the bit at the far end",
             Part::FirstWord => "Searches that find the bit in the first word",
         }
@@ -31,21 +43,28 @@ impl Part {
 
     /// Whether its figures are gigabytes a second, else nanoseconds.
     pub fn is_rate(self) -> bool {
-        matches!(self, Part::Rows | Part::Searches)
+        matches!(self, Part::Rows | Part::Searches) || self.is_across()
+    }
+
+    /// Whether its lines stand beside each other in a table, by the last word of their jobs, a row for each contestant.
+    pub fn is_across(self) -> bool {
+        matches!(self, Part::Inside | Part::Heads)
     }
 }
 
-/// The library is to be at least so many times as fast as another.
+/// The library is to be at least so many times as fast as another, or to reach so many gigabytes a second.
 #[derive(Clone, Copy)]
 pub struct Bar {
     pub against: Who,
     pub at_least: f64,
+    pub or_rate: Option<f64>,
 }
 
 impl Bar {
-    /// Its number, with at most two places.
+    /// Its number, with at most two places, and the rate.
     pub fn text(self) -> String {
-        format!("{}", (self.at_least * 100.0).round() / 100.0)
+        let rate = self.or_rate.map_or(String::new(), |rate| format!(" or {rate} GB/s"));
+        format!("{}{rate}", (self.at_least * 100.0).round() / 100.0)
     }
 }
 
@@ -85,6 +104,7 @@ impl Line {
     /// Whether a bar is met.
     pub fn meets(&self, bar: Bar) -> bool {
         self.ratio(bar.against).is_some_and(|ratio| ratio >= bar.at_least)
+            || self.figure(Who::Library).zip(bar.or_rate).is_some_and(|(rate, enough)| rate >= enough)
     }
 
     /// The order's name.
@@ -110,5 +130,6 @@ pub fn name(who: Who) -> &'static str {
         Who::Plain => "plain",
         Who::Checked => "checked",
         Who::Memory => "mem*",
+        Who::Eight => "eight bytes",
     }
 }

@@ -35,6 +35,8 @@ pub fn measure<T: Width>(lines: &mut Vec<Line>, effort: Effort) {
             long_rows::<T>(lines, effort, order, words);
             far_searches::<T>(lines, effort, order, words);
         }
+        across::<T>(lines, effort, inside::<T>(order));
+        across::<T>(lines, effort, heads::<T>(order));
         first_word_searches::<T>(lines, effort, order);
     }
 }
@@ -55,7 +57,7 @@ fn is_long<T: Width>(words: usize) -> bool {
 
 /// The library is to be at least so many times as fast as another.
 fn bar(against: Who, at_least: f64) -> Bar {
-    Bar { against, at_least }
+    Bar { against, at_least, or_rate: None }
 }
 
 /// At most one and a half times the time of plain Rust.
@@ -117,17 +119,22 @@ const ROWS: [(&str, Job, bool, f64); 14] = [
     ("equal, differing heads", Job::Equal, false, 12.0),
 ];
 
-/// A job on a row of so many bits, the second row at the same head or at another.
-fn task(job: Job, equal_heads: bool, order: u8, length: usize) -> Task {
-    let left = Row { order, word: 0, head: 3, length };
-    Task { job, left, right: Row { head: if equal_heads { 3 } else { 5 }, ..left } }
+/// A job on a row of so many bits, the left row and the right one at these heads.
+fn task(job: Job, heads: (usize, usize), order: u8, length: usize) -> Task {
+    let left = Row { order, word: 0, head: heads.0, length };
+    Task { job, left, right: Row { head: heads.1, ..left } }
+}
+
+/// The heads of the row jobs.
+fn row_heads(equal: bool) -> (usize, usize) {
+    (3, if equal { 3 } else { 5 })
 }
 
 /// All row jobs on buffers of so many words.
 fn long_rows<T: Width>(lines: &mut Vec<Line>, effort: Effort, order: u8, words: usize) {
     let width = <T as Plain>::WIDTH;
     for (name, job, equal_heads, of_bitvec) in ROWS {
-        let task = task(job, equal_heads, order, (words - 1) * width);
+        let task = task(job, row_heads(equal_heads), order, (words - 1) * width);
         let repeat = (LONGEST / words).min(64);
         let times = rows::contest::<T>(task, Buffers::random(words), repeat).run(effort.rounds);
         let mut bars = Vec::new();
@@ -144,11 +151,64 @@ fn long_rows<T: Width>(lines: &mut Vec<Line>, effort: Effort, order: u8, words: 
 fn short_rows<T: Width>(lines: &mut Vec<Line>, effort: Effort, order: u8) {
     let width = <T as Plain>::WIDTH;
     for (name, job, equal_heads, _) in ROWS {
-        let task = task(job, equal_heads, order, 100);
+        let task = task(job, row_heads(equal_heads), order, 100);
         let words = 64 / size_of::<T>();
         let times = rows::contest::<T>(task, Buffers::random(words), 256).run(effort.rounds);
         let bars = if width == 64 { vec![bar(Who::Plain, NEARLY_PLAIN)] } else { Vec::new() };
         lines.push(Line { part: Part::ShortRows, job: name, width, order, words, bits: task.bits(), times, bars });
+    }
+}
+
+/// How far the copies inside go, in bits.
+const DISTANCES: [usize; 11] = [1, 3, 7, 8, 9, 13, 31, 63, 64, 65, 1000];
+
+/// A line about rows of 65,536 words that stands beside others, still without its times.
+struct Planned {
+    part: Part,
+    job: String,
+    task: Task,
+    bars: Vec<Bar>,
+}
+
+/// Copies inside, up and down, by each distance.
+fn inside<T: Width>(order: u8) -> Vec<Planned> {
+    let length = (LONGEST - 1) * <T as Plain>::WIDTH;
+    let fast = Bar { or_rate: Some(6.0), ..bar(Who::Eight, 0.5) };
+    let planned = |way: &str, by: usize, job: Job| Planned {
+        part: Part::Inside,
+        job: format!("copy_within {way} by {by}"),
+        task: task(job, row_heads(true), order, length),
+        bars: T::BY_EIGHT.map(|_| fast).into_iter().collect(),
+    };
+    let up = DISTANCES.map(|by| planned("up", by, Job::CopyUp(by)));
+    let down = DISTANCES.map(|by| planned("down", by, Job::CopyDown(by)));
+    up.into_iter().chain(down).collect()
+}
+
+/// The jobs with two rows, at each pair of heads.
+fn heads<T: Width>(order: u8) -> Vec<Planned> {
+    let width = <T as Plain>::WIDTH;
+    let jobs = [("copy_from", Job::CopyFrom), ("and", Job::Boolean(8)), ("swap", Job::Swap), ("equal", Job::Equal)];
+    let pairs = [("0/0", 0, 0), ("3/3", 3, 3), ("0/1", 0, 1), ("3/5", 3, 5), ("5/3", 5, 3), ("W-1/0", width - 1, 0)];
+    let planned = |(name, job): (&str, Job)| {
+        pairs.map(|(pair, left, right)| Planned {
+            part: Part::Heads,
+            job: format!("{name}, heads {pair}"),
+            task: task(job, (left, right), order, (LONGEST - 1) * width),
+            bars: Vec::new(),
+        })
+    };
+    jobs.into_iter().flat_map(planned).collect()
+}
+
+/// Measures the library, bitvec and plain Rust at planned lines.
+fn across<T: Width>(lines: &mut Vec<Line>, effort: Effort, planned: Vec<Planned>) {
+    for Planned { part, job, task, bars } in planned {
+        let mut contest = rows::contest::<T>(task, Buffers::random(LONGEST), 1);
+        contest.works.retain(|(who, _)| *who != Who::Memory);
+        contest.works.extend(rows::by_eight::<T>(task, 1).map(|work| (Who::Eight, work)));
+        let (width, order, times) = (<T as Plain>::WIDTH, task.left.order, contest.run(effort.rounds));
+        lines.push(Line { part, job: job.leak(), width, order, words: LONGEST, bits: task.bits(), times, bars });
     }
 }
 

@@ -23,6 +23,7 @@ fn colour(who: Who) -> &'static str {
         Who::Plain => "#8a8a8a",
         Who::Checked => "#b04a5a",
         Who::Memory => "#4f9d69",
+        Who::Eight => "#7a5ba8",
     }
 }
 
@@ -43,7 +44,7 @@ pub fn svg(lines: &[&Line]) -> String {
          <text x=\"10\" y=\"20\" font-size=\"14\">Rows of 65,536 words, Lsb0: GB/s (logarithmic)</text>\n",
         LEFT + WIDE + 60.0
     );
-    legend(&mut svg);
+    legend(&mut svg, lines);
     for rate in [0.1, 0.3, 1.0, 3.0, 10.0, 30.0, 100.0] {
         let x = across(rate);
         writeln!(svg, "<line x1=\"{x:.1}\" y1=\"{top}\" x2=\"{x:.1}\" y2=\"{:.1}\" stroke=\"#dddddd\"/>", high - 15.0)
@@ -84,9 +85,10 @@ pub fn svg(lines: &[&Line]) -> String {
     svg + "</svg>\n"
 }
 
-/// Which colour is whose. No row is done by hand with its refusals.
-fn legend(svg: &mut String) {
-    for (n, who) in Who::ALL.into_iter().filter(|who| *who != Who::Checked).enumerate() {
+/// Which colour is whose, of those who are shown.
+fn legend(svg: &mut String, lines: &[&Line]) {
+    let shown = |who: &Who| lines.iter().any(|line| line.figure(*who).is_some());
+    for (n, who) in Who::ALL.into_iter().filter(shown).enumerate() {
         let x = LEFT + 110.0 * n as f64;
         writeln!(svg, "<rect x=\"{x}\" y=\"34\" width=\"10\" height=\"10\" fill=\"{}\"/>", colour(who)).unwrap();
         writeln!(svg, "<text x=\"{}\" y=\"43\">{}</text>", x + 14.0, name(who)).unwrap();

@@ -89,6 +89,13 @@ fn by_calls<T: Width, C: Calls<T>>(task: Task, repeat: usize) -> Work<T> {
     }
 }
 
+/// The work of plain Rust that takes eight bytes at once, where there is one: at copies inside.
+pub fn by_eight<T: Width>(task: Task, repeat: usize) -> Option<Work<T>> {
+    let (copy, (start, count, destination)) = (T::BY_EIGHT?, task.ranges());
+    matches!(task.job, Job::CopyUp(_) | Job::CopyDown(_))
+        .then(|| times(repeat, move |b: &mut Buffers<T>| copy(&mut b.left, task.left, start, count, destination)))
+}
+
 /// bitvec's work.
 fn bitvec<T: Width, O: BitOrder>(task: Task, repeat: usize) -> Work<T>
 where

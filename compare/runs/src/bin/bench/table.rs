@@ -7,7 +7,8 @@ use crate::{
     line::{name, Line, Part},
 };
 
-const OTHERS: [Who; 4] = [Who::Bitvec, Who::Plain, Who::Checked, Who::Memory];
+/// Whose figures a line's row has: the library's, and those that it is held to.
+const COLUMNS: [Who; 5] = [Who::Library, Who::Bitvec, Who::Plain, Who::Checked, Who::Memory];
 
 /// A number of three or so digits; a dash for none.
 fn short(number: Option<f64>) -> String {
@@ -19,23 +20,78 @@ fn short(number: Option<f64>) -> String {
     }
 }
 
+/// The cells that a line's row begins with: job, width, order.
+fn kind(job: &str, line: &Line) -> Vec<String> {
+    vec![job.to_string(), line.width.to_string(), line.order_name().to_string()]
+}
+
 /// A line's cells: job, width, order, words, figures, ratios, bars.
 fn cells(line: &Line) -> Vec<String> {
-    let mut cells =
-        vec![line.job.to_string(), line.width.to_string(), line.order_name().to_string(), line.words.to_string()];
-    cells.extend(Who::ALL.map(|who| short(line.figure(who))));
-    cells.extend(OTHERS.map(|who| short(line.ratio(who))));
+    let mut cells = kind(line.job, line);
+    cells.push(line.words.to_string());
+    cells.extend(COLUMNS.map(|who| short(line.figure(who))));
+    cells.extend(COLUMNS[1..].iter().map(|&who| short(line.ratio(who))));
     cells.push(line.bars_text());
     cells
 }
 
-/// The heads of the columns.
-fn heads() -> Vec<String> {
+/// A row for each line, below the heads of the columns.
+fn down(lines: &[&Line]) -> Vec<Vec<String>> {
     let mut heads = ["job", "W", "order", "words"].map(String::from).to_vec();
-    heads.extend(Who::ALL.map(|who| name(who).to_string()));
-    heads.extend(OTHERS.map(|who| format!("x {}", name(who))));
+    heads.extend(COLUMNS.map(|who| name(who).to_string()));
+    heads.extend(COLUMNS[1..].iter().map(|&who| format!("x {}", name(who))));
     heads.push("bars".to_string());
-    heads
+    std::iter::once(heads).chain(lines.iter().map(|line| cells(line))).collect()
+}
+
+/// A figure's place in a table across: the cells that its row begins with, and the head of its column.
+struct Placed {
+    row: Vec<String>,
+    column: String,
+    figure: String,
+}
+
+/// Figures that are beside each other where their rows begin alike, below the heads of the columns.
+fn placed(heads: &[&str], figures: impl Iterator<Item = Placed>) -> Vec<Vec<String>> {
+    let mut table = vec![heads.iter().map(|head| head.to_string()).collect::<Vec<_>>()];
+    for Placed { row, column, figure } in figures {
+        let across = table[0].iter().position(|head| *head == column).unwrap_or_else(|| {
+            table[0].push(column);
+            table[1..].iter_mut().for_each(|cells| cells.push(short(None)));
+            table[0].len() - 1
+        });
+        let down = table.iter().position(|cells| cells.starts_with(&row)).unwrap_or_else(|| {
+            let dashes = vec![short(None); table[0].len() - row.len()];
+            table.push([row, dashes].concat());
+            table.len() - 1
+        });
+        table[down][across] = figure;
+    }
+    table
+}
+
+/// Everybody's figures, by the last word of the job.
+fn across(lines: &[&Line]) -> Vec<Vec<String>> {
+    let figures = lines.iter().flat_map(|line| {
+        let (job, last) = line.job.rsplit_once(' ').unwrap_or((line.job, ""));
+        Who::ALL.into_iter().filter(|&who| line.figure(who).is_some()).map(move |who| {
+            let row = [kind(job, line), vec![name(who).to_string()]].concat();
+            Placed { row, column: last.to_string(), figure: short(line.figure(who)) }
+        })
+    });
+    placed(&["job", "W", "order", "who"], figures)
+}
+
+/// The library's figures, by the length of the row.
+fn growth(lines: &[&Line]) -> Vec<Vec<String>> {
+    let mut lines = lines.to_vec();
+    lines.sort_by_key(|line| line.words);
+    let figures = lines.iter().map(|line| Placed {
+        row: kind(line.job, line),
+        column: format!("{} words", line.words),
+        figure: short(line.figure(Who::Library)),
+    });
+    placed(&["job", "W", "order"], figures)
 }
 
 /// The unit of a part's figures.
@@ -47,17 +103,20 @@ fn unit(part: Part) -> &'static str {
     }
 }
 
+/// The lines of a part.
+fn of(part: Part, lines: &[Line]) -> Vec<&Line> {
+    lines.iter().filter(|line| line.part == part).collect()
+}
+
 /// Prints all lines.
 pub fn print(lines: &[Line]) {
     for part in Part::ALL {
         println!("\n{}, {}", part.title(), unit(part));
-        let rows = lines.iter().filter(|line| line.part == part).map(cells);
-        for cells in std::iter::once(heads()).chain(rows) {
-            print!("{:<34}{:>3} {:<5}{:>6} ", cells[0], cells[1], cells[2], cells[3]);
-            cells[4..9].iter().for_each(|figure| print!("{figure:>8}"));
-            print!(" |");
-            cells[9..13].iter().for_each(|ratio| print!("{ratio:>9}"));
-            println!("  {}", cells[13]);
+        let table = if part.is_across() { across(&of(part, lines)) } else { down(&of(part, lines)) };
+        for cells in table {
+            print!("{:<34}{:>3} {:<5}{:>11} ", cells[0], cells[1], cells[2], cells[3]);
+            cells[4..].iter().for_each(|cell| print!(" {cell:>8}"));
+            println!();
         }
     }
 }
@@ -84,45 +143,34 @@ pub fn summary(lines: &[Line]) -> String {
     text
 }
 
-/// A table in Markdown.
-fn markdown_table(text: &mut String, heads: &[String], rows: impl Iterator<Item = Vec<String>>) {
-    writeln!(text, "| {} |\n|{}", heads.join(" | "), "---|".repeat(heads.len())).unwrap();
-    rows.for_each(|cells| writeln!(text, "| {} |", cells.join(" | ")).unwrap());
+/// A table in Markdown, from the heads of the columns and the rows below them.
+fn markdown_table(text: &mut String, table: Vec<Vec<String>>) {
+    for (n, cells) in table.iter().enumerate() {
+        writeln!(text, "| {} |", cells.join(" | ")).unwrap();
+        if n == 0 {
+            writeln!(text, "|{}", "---|".repeat(cells.len())).unwrap();
+        }
+    }
 }
 
-/// Everything for docs/BENCHMARKS.md: the bars first, then a table for each part, rows that have bars
-/// in full and the others as growth.
+/// Everything for docs/BENCHMARKS.md: the bars first, then a table for each part. Rows and searches that have bars
+/// stand there in full, the others as growth.
 pub fn markdown(lines: &[Line]) -> String {
     let mut text = summary(lines);
     for part in Part::ALL {
         writeln!(text, "\n### {}, {}\n", part.title(), unit(part)).unwrap();
-        let of_part = || lines.iter().filter(|line| line.part == part);
-        let shown = of_part().filter(|line| !part.is_rate() || !line.bars.is_empty());
-        markdown_table(&mut text, &heads(), shown.map(cells));
-        if part.is_rate() {
-            growth(&mut text, &of_part().collect::<Vec<_>>());
+        let mut lines = of(part, lines);
+        if part.is_across() {
+            markdown_table(&mut text, across(&lines));
+        } else if part.is_rate() {
+            let growth = growth(&lines);
+            lines.retain(|line| !line.bars.is_empty());
+            markdown_table(&mut text, down(&lines));
+            writeln!(text, "\nThe library's GB/s by the length of the row:\n").unwrap();
+            markdown_table(&mut text, growth);
+        } else {
+            markdown_table(&mut text, down(&lines));
         }
     }
     text
-}
-
-/// The library's rate by the length of the row.
-fn growth(text: &mut String, lines: &[&Line]) {
-    let mut lengths: Vec<usize> = lines.iter().map(|line| line.words).collect();
-    lengths.sort();
-    lengths.dedup();
-    let mut heads = ["job", "W", "order"].map(String::from).to_vec();
-    heads.extend(lengths.iter().map(|words| format!("{words} words")));
-    writeln!(text, "\nThe library's GB/s by the length of the row:\n").unwrap();
-    let same = |a: &Line, b: &Line| (a.job, a.width, a.order) == (b.job, b.width, b.order);
-    let firsts = lines.iter().enumerate().filter(|(n, line)| !lines[..*n].iter().any(|before| same(before, line)));
-    let rows = firsts.map(|(_, line)| {
-        let mut cells = vec![line.job.to_string(), line.width.to_string(), line.order_name().to_string()];
-        cells.extend(lengths.iter().map(|&words| {
-            let at = lines.iter().find(|other| same(other, line) && other.words == words);
-            short(at.and_then(|line| line.figure(Who::Library)))
-        }));
-        cells
-    });
-    markdown_table(text, &heads, rows);
 }

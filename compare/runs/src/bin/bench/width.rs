@@ -58,6 +58,9 @@ pub trait Width: Lent + Plain {
     /// Fields by hand with every refusal, where that is written.
     const CHECKED: Option<Checked<Self>>;
 
+    /// Copy inside by plain Rust that takes eight bytes at once, where a word has fewer: as `Calls` has it.
+    const BY_EIGHT: Option<fn(&mut [Self], Row, usize, usize, usize) -> u64>;
+
     /// The fields of k bits that begin at a head of a word each, loaded by Rattle code: a mix of their numbers.
     fn known_loads(words: &[Self], places: &[usize], heads: &[usize], k: usize) -> u64;
 
@@ -66,12 +69,13 @@ pub trait Width: Lent + Plain {
 }
 
 macro_rules! width {
-    ($word:ty, $loads:path, $stores:path, $checked:expr) => {
+    ($word:ty, $loads:path, $stores:path, $checked:expr, $by_eight:expr) => {
         impl Width for $word {
             type Library = Library;
             type PlainRust = PlainRust;
 
             const CHECKED: Option<Checked<$word>> = $checked;
+            const BY_EIGHT: Option<fn(&mut [$word], Row, usize, usize, usize) -> u64> = $by_eight;
 
             fn known_loads(words: &[$word], places: &[usize], heads: &[usize], k: usize) -> u64 {
                 let mut mix = 0;
@@ -87,14 +91,6 @@ macro_rules! width {
         }
     };
 }
-
-width!(u8, known::known8_loads, known::known8_stores, None);
-width!(
-    u64,
-    known::known64_loads,
-    known::known64_stores,
-    Some(Checked { load: plain::checked::load, store: plain::checked::store })
-);
 
 /// The calls of one of the two. Each answers a number that shows a refusal too.
 pub trait Calls<T>: 'static {
@@ -197,6 +193,24 @@ macro_rules! calls {
         };
     };
 }
+
+width!(
+    u8,
+    known::known8_loads,
+    known::known8_stores,
+    None,
+    Some(|words, row, start, count, destination| {
+        let (pointer, lent) = (words.as_mut_ptr(), words.len());
+        done(one!(plain::w8::copy_within_by_eight, pointer, lent, row, start, count, destination))
+    })
+);
+width!(
+    u64,
+    known::known64_loads,
+    known::known64_stores,
+    Some(Checked { load: plain::checked::load, store: plain::checked::store }),
+    None
+);
 
 calls!(Library, u8, exported::on_u8);
 calls!(Library, u64, exported::on_u64);

@@ -2,14 +2,14 @@
 
 use std::slice::{from_raw_parts, from_raw_parts_mut};
 
-use super::{fields, rows, searches, Plain};
+use super::{eight, fields, rows, searches, Plain};
 
 /// Calls a function of the order with it as a constant.
 macro_rules! by_order {
-    ($order:expr, $function:ident :: $name:ident, [$word:ty $(, $known:literal)*], ($($argument:expr),*)) => {
+    ($order:expr, $function:ident :: $name:ident, [$($word:ty)? $(, $known:literal)*], ($($argument:expr),*)) => {
         match $order {
-            0 => $function::$name::<$word, false $(, $known)*>($($argument),*),
-            _ => $function::$name::<$word, true $(, $known)*>($($argument),*),
+            0 => $function::$name::<$($word,)? false $(, $known)*>($($argument),*),
+            _ => $function::$name::<$($word,)? true $(, $known)*>($($argument),*),
         }
     };
 }
@@ -66,6 +66,29 @@ macro_rules! two_rows {
             let ($words, $right) = ($lend(words, lent), $second_lend(right, right_lent));
             let ($at, $from) = (word * Word::WIDTH + head, right_word * Word::WIDTH + right_head);
             $body;
+            0
+        }
+    };
+}
+
+/// A copy inside with the signature of the exported one.
+macro_rules! inside {
+    ($word:ty, $name:ident, $module:ident :: $function:ident, [$($known:ty)?]) => {
+        #[inline(never)]
+        pub unsafe extern "C" fn $name(
+            words: *mut $word,
+            lent: usize,
+            order: u8,
+            word: usize,
+            head: usize,
+            _length: usize,
+            start: usize,
+            count: usize,
+            destination: usize,
+        ) -> u8 {
+            let at = word * <$word>::WIDTH + head;
+            let words = from_raw_parts_mut(words, lent);
+            by_order!(order, $module::$function, [$($known)?], (words, at + start, at + destination, count));
             0
         }
     };
@@ -129,23 +152,7 @@ macro_rules! calls {
             }
         );
 
-        #[inline(never)]
-        pub unsafe extern "C" fn copy_within(
-            words: *mut $word,
-            lent: usize,
-            order: u8,
-            word: usize,
-            head: usize,
-            _length: usize,
-            start: usize,
-            count: usize,
-            destination: usize,
-        ) -> u8 {
-            let at = word * <$word>::WIDTH + head;
-            let words = from_raw_parts_mut(words, lent);
-            by_order!(order, rows::copy_within, [$word], (words, at + start, at + destination, count));
-            0
-        }
+        inside!($word, copy_within, rows::copy_within, [$word]);
 
         two_rows!(
             boolean, *mut Word, from_raw_parts_mut, *const Word, from_raw_parts, (operation: u8),
@@ -182,6 +189,7 @@ macro_rules! calls {
 /// Words of 8 bits.
 pub mod w8 {
     calls!(u8);
+    inside!(u8, copy_within_by_eight, eight::copy_within, []);
 }
 
 /// Words of 64 bits.

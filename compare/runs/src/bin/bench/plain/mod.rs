@@ -4,6 +4,7 @@
 
 mod calls;
 pub mod checked;
+mod eight;
 mod fields;
 mod rows;
 mod searches;
