@@ -58,14 +58,14 @@ fn plain_up(words: &mut [u64], b: usize, a: usize, k: usize)
     }
 }
 
-// The same with the words at head h of word b.
-fn joined_up(words: &mut [u64], order: Order, h: usize, b: usize, a: usize, k: usize)
-    requires { ⌜ (1 ≤ h) × (h < 64) × (b + k + 1 ≤ length (now words)) × (a + k ≤ length (now words)) × ((a ≤ b) ⊎ (b + k + 1 ≤ a)) × (length (now words) ≤ 65536) ⌝ }
-    ensures { λ _. ⌜ now (words .exit) ≡ moved 64 order (now (words .entry)) (b * 64 + h) (a * 64) (k * 64) ⌝ }
+// The same with the words at a head of word b.
+fn joined_up(words: &mut [u64], order: Order, head: Index, b: usize, a: usize, k: usize)
+    requires { ⌜ (1 ≤ head .0) × (head .0 < 64) × (b + k + 1 ≤ length (now words)) × (a + k ≤ length (now words)) × ((a ≤ b) ⊎ (b + k + 1 ≤ a)) × (length (now words) ≤ 65536) ⌝ }
+    ensures { λ _. ⌜ now (words .exit) ≡ moved 64 order (now (words .entry)) (b * 64 + head .0) (a * 64) (k * 64) ⌝ }
 {
     let mut i: usize = 0;
     while i < k {
-        words[a + i] = joined(order, Index(h), words[b + i], words[b + i + 1]);
+        words[a + i] = joined(order, head, words[b + i], words[b + i + 1]);
         i = i + 1;
     }
 }
@@ -82,28 +82,28 @@ fn plain_down(words: &mut [u64], b: usize, a: usize, k: usize)
     }
 }
 
-// The same with the words at head h of word b.
-fn joined_down(words: &mut [u64], order: Order, h: usize, b: usize, a: usize, k: usize)
-    requires { ⌜ (1 ≤ h) × (h < 64) × (b + k + 1 ≤ length (now words)) × (a + k ≤ length (now words)) × (b + 1 ≤ a) × (length (now words) ≤ 65536) ⌝ }
-    ensures { λ _. ⌜ now (words .exit) ≡ moved 64 order (now (words .entry)) (b * 64 + h) (a * 64) (k * 64) ⌝ }
+// The same with the words at a head of word b.
+fn joined_down(words: &mut [u64], order: Order, head: Index, b: usize, a: usize, k: usize)
+    requires { ⌜ (1 ≤ head .0) × (head .0 < 64) × (b + k + 1 ≤ length (now words)) × (a + k ≤ length (now words)) × (b + 1 ≤ a) × (length (now words) ≤ 65536) ⌝ }
+    ensures { λ _. ⌜ now (words .exit) ≡ moved 64 order (now (words .entry)) (b * 64 + head .0) (a * 64) (k * 64) ⌝ }
 {
     let mut i: usize = k;
     while 0 < i {
         i = i - 1;
-        words[a + i] = joined(order, Index(h), words[b + i], words[b + i + 1]);
+        words[a + i] = joined(order, head, words[b + i], words[b + i + 1]);
     }
 }
 
 // The same where word a is the one after word b. The loop speaks of word b alone and counts last: the compiler then sees which words
 // overlap, and makes a vector loop of it.
-fn joined_next(words: &mut [u64], order: Order, h: usize, b: usize, k: usize)
-    requires { ⌜ (1 ≤ h) × (h < 64) × (b + 1 + k ≤ length (now words)) × (length (now words) ≤ 65536) ⌝ }
-    ensures { λ _. ⌜ now (words .exit) ≡ moved 64 order (now (words .entry)) (b * 64 + h) ((b + 1) * 64) (k * 64) ⌝ }
+fn joined_next(words: &mut [u64], order: Order, head: Index, b: usize, k: usize)
+    requires { ⌜ (1 ≤ head .0) × (head .0 < 64) × (b + 1 + k ≤ length (now words)) × (length (now words) ≤ 65536) ⌝ }
+    ensures { λ _. ⌜ now (words .exit) ≡ moved 64 order (now (words .entry)) (b * 64 + head .0) ((b + 1) * 64) (k * 64) ⌝ }
 {
     let mut i: usize = k;
     while 0 < i {
         let at = b + i;
-        words[at] = joined(order, Index(h), words[at - 1], words[at]);
+        words[at] = joined(order, head, words[at - 1], words[at]);
         i = i - 1;
     }
 }
@@ -124,10 +124,10 @@ fn whole_up(words: &mut [u64], order: Order, from: usize, to: usize, k: usize)
         return;
     }
     if a == b {
-        joined_up(words, order, h, a, a, k);
+        joined_up(words, order, Index(h), a, a, k);
         return;
     }
-    joined_up(words, order, h, b, a, k);
+    joined_up(words, order, Index(h), b, a, k);
 }
 
 // The same downward. Where word a is the one after word b, the compiler is shown so too.
@@ -146,10 +146,10 @@ fn whole_down(words: &mut [u64], order: Order, from: usize, to: usize, k: usize)
         return;
     }
     if a == b + 1 {
-        joined_next(words, order, h, b, k);
+        joined_next(words, order, Index(h), b, k);
         return;
     }
-    joined_down(words, order, h, b, a, k);
+    joined_down(words, order, Index(h), b, a, k);
 }
 
 // Upward, the first bits first: for a source range that does not contain the destination.

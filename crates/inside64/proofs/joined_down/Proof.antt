@@ -13,15 +13,15 @@ use Rattle.inside64.proofs.joined_down.Statement.{statement}
 use Rattle.inside64.proofs.joined_down.Tie as tie
 
 abbrev Inv-loop : tie.InvT-loop
-Inv-loop words₀ order h b a k i₀ words i = (i ≤ k) × (length words ≡ length words₀) × (words ≡ moved 64 order words₀ (b * 64 + h + i * 64) (a * 64 + i * 64) ((k - i) * 64))
+Inv-loop words₀ order head b a k i₀ words i = (i ≤ k) × (length words ≡ length words₀) × (words ≡ moved 64 order words₀ (b * 64 + head .0 + i * 64) (a * 64 + i * 64) ((k - i) * 64))
 
 abbrev μ-loop : tie.MeasureT-loop
-μ-loop words₀ order h b a k i₀ words i = i
+μ-loop words₀ order head b a k i₀ words i = i
 
 loop-holds : tie.Need-loop-holds Inv-loop μ-loop
 loop-holds c =
     let a = c .before .args in
-    (omega arith, refl, moved-none 64 (lit< tt) (a .order) (now (a .words)) (a .b * 64 + a .h + a .k * 64) (a .a * 64 + a .k * 64) ((a .k - a .k) * 64) (omega arith) (λ j. c .slice-known .given j .fits))
+    (omega arith, refl, moved-none 64 (lit< tt) (a .order) (now (a .words)) (a .b * 64 + a .head .0 + a .k * 64) (a .a * 64 + a .k * 64) ((a .k - a .k) * 64) (omega arith) (λ j. c .slice-known .given j .fits))
 
 sub-i : tie.Need-sub-i Inv-loop μ-loop
 sub-i c = omega arith
@@ -69,8 +69,8 @@ loop-again c =
     let i = turn .loop .i in (
       omega arith,
       simp length-set (turn .loop .inv .1),
-      word-down 64 (lit< tt) (a .order) (now (a .words)) (a .a) (a .b) (a .h) (a .k) (i - 1) i (omega arith) (omega arith) (omega arith) (omega arith) (omega arith) (omega arith) (turn .loop .inv .2)
-          (λ w. c .joined .ensures ∙ from-funnel 64 (a .order) (a .h) (omega arith) (turn .loop .words) (a .b + (i - 1)) w),
+      word-down 64 (lit< tt) (a .order) (now (a .words)) (a .a) (a .b) (a .head .0) (a .k) (i - 1) i (omega arith) (omega arith) (omega arith) (omega arith) (omega arith) (omega arith) (turn .loop .inv .2)
+          (λ w. c .joined .ensures ∙ from-funnel 64 (a .order) (a .head .0) (omega arith) (turn .loop .words) (a .b + (i - 1)) w),
     )
 
 same-length : tie.Need-same-length Inv-loop μ-loop

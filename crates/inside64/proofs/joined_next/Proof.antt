@@ -15,15 +15,15 @@ use Rattle.inside64.proofs.joined_next.Statement.{statement}
 use Rattle.inside64.proofs.joined_next.Tie as tie
 
 abbrev Inv-loop : tie.InvT-loop
-Inv-loop words₀ order h b k i₀ words i = (i ≤ k) × (length words ≡ length words₀) × (words ≡ moved 64 order words₀ (b * 64 + h + i * 64) ((b + 1) * 64 + i * 64) ((k - i) * 64))
+Inv-loop words₀ order head b k i₀ words i = (i ≤ k) × (length words ≡ length words₀) × (words ≡ moved 64 order words₀ (b * 64 + head .0 + i * 64) ((b + 1) * 64 + i * 64) ((k - i) * 64))
 
 abbrev μ-loop : tie.MeasureT-loop
-μ-loop words₀ order h b k i₀ words i = i
+μ-loop words₀ order head b k i₀ words i = i
 
 loop-holds : tie.Need-loop-holds Inv-loop μ-loop
 loop-holds c =
     let a = c .before .args in
-    (omega arith, refl, moved-none 64 (lit< tt) (a .order) (now (a .words)) (a .b * 64 + a .h + a .k * 64) ((a .b + 1) * 64 + a .k * 64) ((a .k - a .k) * 64) (omega arith) (λ j. c .slice-known .given j .fits))
+    (omega arith, refl, moved-none 64 (lit< tt) (a .order) (now (a .words)) (a .b * 64 + a .head .0 + a .k * 64) ((a .b + 1) * 64 + a .k * 64) ((a .k - a .k) * 64) (omega arith) (λ j. c .slice-known .given j .fits))
 
 add-at : tie.Need-add-at Inv-loop μ-loop
 add-at c = omega arith
@@ -70,8 +70,8 @@ loop-again c =
       omega arith,
       simp length-set (turn .loop .inv .1),
       ap (λ (x : ℕ). set words x (c .joined .result)) here
-          ∙ word-down 64 (lit< tt) (a .order) (now (a .words)) (a .b + 1) (a .b) (a .h) (a .k) (i - 1) i (omega arith) (omega arith) (omega arith) (omega arith) (omega arith) (omega arith) (turn .loop .inv .2)
-          (λ w. c .joined .ensures ∙ ap₂ (λ (x y : ℕ). funneled 64 (a .order) (a .h) (getD words x 0) (getD words y 0)) one-before next ∙ from-funnel 64 (a .order) (a .h) (omega arith) words (a .b + (i - 1)) w),
+          ∙ word-down 64 (lit< tt) (a .order) (now (a .words)) (a .b + 1) (a .b) (a .head .0) (a .k) (i - 1) i (omega arith) (omega arith) (omega arith) (omega arith) (omega arith) (omega arith) (turn .loop .inv .2)
+          (λ w. c .joined .ensures ∙ ap₂ (λ (x y : ℕ). funneled 64 (a .order) (a .head .0) (getD words x 0) (getD words y 0)) one-before next ∙ from-funnel 64 (a .order) (a .head .0) (omega arith) words (a .b + (i - 1)) w),
     )
 
 same-length : tie.Need-same-length Inv-loop μ-loop

@@ -14,15 +14,15 @@ use Rattle.inside8.proofs.joined_up.Statement.{statement}
 use Rattle.inside8.proofs.joined_up.Tie as tie
 
 abbrev Inv-loop : tie.InvT-loop
-Inv-loop words₀ order h b a k i₀ words i = (i ≤ k) × (length words ≡ length words₀) × (words ≡ moved 8 order words₀ (b * 8 + h) (a * 8) (i * 8))
+Inv-loop words₀ order head b a k i₀ words i = (i ≤ k) × (length words ≡ length words₀) × (words ≡ moved 8 order words₀ (b * 8 + head .0) (a * 8) (i * 8))
 
 abbrev μ-loop : tie.MeasureT-loop
-μ-loop words₀ order h b a k i₀ words i = k - i
+μ-loop words₀ order head b a k i₀ words i = k - i
 
 loop-holds : tie.Need-loop-holds Inv-loop μ-loop
 loop-holds c =
     let a = c .before .args in
-    (omega arith, refl, moved-none 8 (lit< tt) (a .order) (now (a .words)) (a .b * 8 + a .h) (a .a * 8) (0 * 8) (omega arith) (λ j. c .slice-known .given j .fits))
+    (omega arith, refl, moved-none 8 (lit< tt) (a .order) (now (a .words)) (a .b * 8 + a .head .0) (a .a * 8) (0 * 8) (omega arith) (λ j. c .slice-known .given j .fits))
 
 add-joined : tie.Need-add-joined Inv-loop μ-loop
 add-joined c = omega arith
@@ -62,8 +62,8 @@ loop-again c =
     let i = turn .loop .i in (
       omega arith,
       simp length-set (turn .loop .inv .1),
-      word-up 8 (lit< tt) (a .order) (now (a .words)) (a .a) (a .b) (a .h) i (omega arith) (omega arith) (omega arith) (⊎-elim (λ l. inl (omega arith)) (λ l. inr (omega arith)) (start .pre .4)) (turn .loop .inv .2)
-          (λ w. c .joined .ensures ∙ from-funnel 8 (a .order) (a .h) (omega arith) (turn .loop .words) (a .b + i) w),
+      word-up 8 (lit< tt) (a .order) (now (a .words)) (a .a) (a .b) (a .head .0) i (omega arith) (omega arith) (omega arith) (⊎-elim (λ l. inl (omega arith)) (λ l. inr (omega arith)) (start .pre .4)) (turn .loop .inv .2)
+          (λ w. c .joined .ensures ∙ from-funnel 8 (a .order) (a .head .0) (omega arith) (turn .loop .words) (a .b + i) w),
     )
 
 same-length : tie.Need-same-length Inv-loop μ-loop
