@@ -1,0 +1,42 @@
+#!/usr/bin/env bash
+# Makes target/native/libNAME.a for an Arm machine, for timing and for long runs there: `rt staticlib NAME` with a compiler that keeps the module it is given, and that
+# module compiled once more, by the same compiler at the same level, for the machine at hand. Such an archive is no product: what is shipped is for x86-64.
+#
+#     compare/native.sh [NAME..]     stableply and known unless said otherwise
+#
+# Then, in compare/: STABLEPLY_LIB_DIR=../target/native CARGO_TARGET_DIR=target/native cargo build --release --offline
+set -eu
+cd "$(dirname "$0")/.."
+machine=$(uname -m)
+[ "$machine" != x86_64 ] || { echo 'this machine runs the archives of rt staticlib as they are' >&2; exit 2; }
+kit=${RATTLE_HOME:-$(dirname "$(dirname "$(readlink -f "$(command -v rt)")")")}
+room=$(mktemp -d)
+trap 'rm -rf "$room"' EXIT
+
+# A kit like the given one, whose compiler keeps the module.
+tools=on/$machine/toolchain
+mkdir -p "$room/kit/$tools/bin"
+links() { # FOLDER LEFT-OUT
+    for part in "$kit/$1"/*; do
+        [ "${part##*/}" = "$2" ] || ln -s "$part" "$room/kit/$1/"
+    done
+}
+links . on
+links "on/$machine" toolchain
+links "$tools" bin
+links "$tools/bin" clang
+cat >"$room/kit/$tools/bin/clang" <<WRAPPER
+#!/bin/sh
+for word; do case \$word in *.bc) cp "\$word" "$room/module.bc" ;; esac; done
+exec "$kit/$tools/bin/clang" "\$@"
+WRAPPER
+chmod +x "$room/kit/$tools/bin/clang"
+
+mkdir -p target/native
+[ $# -gt 0 ] || set -- stableply known
+for crate; do
+    RATTLE_HOME=$room/kit rt staticlib "$crate" | tail -n 1
+    "$kit/$tools/bin/clang" --target="$machine-unknown-linux-gnu" -ffunction-sections -fdata-sections -Wno-override-module -c -x ir "$room/module.bc" -o "$room/$crate.o" -fPIC -O3 2>/dev/null
+    rm -f "target/native/lib$crate.a"
+    "$kit/$tools/bin/llvm-ar" rcs "target/native/lib$crate.a" "$room/$crate.o"
+done
