@@ -1,6 +1,5 @@
 // Equality of two rows of words of 8 bits: a first piece, whole words in blocks with no exit inside, a last piece.
 use checks::check_pair;
-use rules::End;
 use rules::EqualAnswer;
 use rules::Index;
 use rules::Order;
@@ -126,10 +125,8 @@ fn differ_piece(left: &[u8], order: Order, p: usize, n: usize, right: &[u8], q: 
     if n == 0 {
         return 0;
     }
-    let h = p % 8;
-    let end = h + n;
-    let v = fetch(right, order, q, Index(h), n);
-    let m = mask(order, Index(h), End(end));
+    let v = fetch(right, order, q, Index(p % 8), n);
+    let m = mask(order, Index(p % 8), n);
     let x = left[p / 8] ^ v;
     under(m, x)
 }

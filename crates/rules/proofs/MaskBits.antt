@@ -1,8 +1,9 @@
--- A mask by the indexes that it covers. Assumes nothing.
-use mathlib.Core.Path.{_≡_, ap, _∙_}
+-- A mask by the indexes that it covers, and as shifts of a word of ones make it. Assumes nothing.
+use mathlib.Core.Path.{_≡_, sym, ap, _∙_}
 use mathlib.Core.Logic.{_⊎_, inl, inr}
-use Prim.Native.Nat.{ℕ, _+_, _-_, _*_, _^_, _≤_, _<_}
+use Prim.Native.Nat.{ℕ, _+_, _-_, _*_, _/_, _%_, _^_, _≤_, _<_}
 use native.Mathlib.Omega.{arith}
+use lib.Pow.{shl-exact, ones-split, high, ones-lt}
 use Rattle.rules.specs.Types.{Order, Lsb0, Msb0}
 use Rattle.rules.specs.Bits.{bitN}
 use Rattle.rules.specs.Positions.{position, mask}
@@ -48,6 +49,26 @@ mask-below W o h n i fits l = run-is W h n i fits o ∙ run-below W h n i fits o
 
 pub mask-above : (W : ℕ) (o : Order) (h n i : ℕ) → h + n ≤ W → h + n ≤ i → i < W → bitN (mask W o h (h + n)) (position W o i) ≡ 0
 mask-above W o h n i fits l m = run-is W h n i fits o ∙ run-above W h n i fits o l m
+
+-- ---- all ones of a word moved down to n of them, then up to a position
+
+ones-down : (W n : ℕ) → n ≤ W → (2 ^ W - 1) / 2 ^ (W - n) ≡ 2 ^ n - 1
+ones-down W n h =
+    ap (λ (w : ℕ). (2 ^ w - 1) / 2 ^ (W - n)) (omega arith)
+    ∙ ap (λ (x : ℕ). x / 2 ^ (W - n)) (ones-split n (W - n))
+    ∙ high (2 ^ n - 1) (W - n) (ones-lt (W - n))
+
+pub ones-moved : (W p n : ℕ) → p + n ≤ W → ((2 ^ W - 1) / 2 ^ (W - n) * 2 ^ p) % 2 ^ W ≡ (2 ^ n - 1) * 2 ^ p
+ones-moved W p n fits = ap (λ (x : ℕ). x * 2 ^ p % 2 ^ W) (ones-down W n (omega arith)) ∙ shl-exact n p W (ones-lt n) (omega arith)
+
+-- n ones from the lowest position of the indexes up, in either order
+pub run-lsb0 : (W h n : ℕ) {o : Order} {m : ℕ} → h + n ≤ W → o ≡ Lsb0 → m ≡ (2 ^ n - 1) * 2 ^ h → m ≡ mask W o h (h + n)
+unfolding lowest
+run-lsb0 W h n fits e d = rw e (d ∙ sym (mask-run W Lsb0 h n fits))
+
+pub run-msb0 : (W h n : ℕ) {o : Order} {m : ℕ} → h + n ≤ W → o ≡ Msb0 → m ≡ (2 ^ n - 1) * 2 ^ (W - h - n) → m ≡ mask W o h (h + n)
+unfolding lowest
+run-msb0 W h n fits e d = rw e (d ∙ sym (mask-run W Msb0 h n fits))
 
 -- beside the run there is no bit
 pub mask-out : (W : ℕ) (o : Order) (h n i : ℕ) → h + n ≤ W → i < W → (i < h) ⊎ (h + n ≤ i) → bitN (mask W o h (h + n)) (position W o i) ≡ 0

@@ -1,5 +1,4 @@
 // The leaves, which know the word's type: the bits sought in a word, and blocks of words that have none.
-use rules::End;
 use rules::Index;
 use rules::Order;
 use word64::flip;
@@ -17,9 +16,7 @@ pub fn sought_in(words: &[u64], order: Order, sought: bool, k: usize, head: Inde
     ensures { λ r. ⌜ r ≡ masked 64 order sought (getD (now (words .entry)) k 0) (head .0) n ⌝ }
 {
     let f = flip(sought);
-    let h = head.0;
-    let end = h + n;
-    let m = mask(order, head, End(end));
+    let m = mask(order, head, n);
     let x = words[k] ^ f;
     under(m, x)
 }

@@ -1,7 +1,6 @@
 // The leaves that know a word of 64 bits. All that is done to a word by its order is done here.
 mod zeros;
 
-use rules::End;
 use rules::Index;
 use rules::Mask;
 use rules::Order;
@@ -10,7 +9,7 @@ pub use zeros::flip;
 pub use zeros::last_end;
 pub use zeros::zeros_end;
 ghost use mathlib.Core.Path.{_≡_};
-ghost use Prim.Native.Nat.{min, _+_, _-_, _*_, _/_, _%_, _≤_, _<_};
+ghost use Prim.Native.Nat.{min, _+_, _-_, _*_, _/_, _%_, _^_, _≤_, _<_};
 ghost use lib.Bits.{bitAnd};
 ghost use lib.ListN.{length, getD};
 ghost use Rattle.rules.specs.Bits.{bitN};
@@ -19,17 +18,26 @@ ghost use Rattle.rules.proofs.Funnel.{funneled};
 ghost use Rattle.rules.proofs.Merged.{selected};
 ghost use Rattle.rules.proofs.Moves.{downOf, upOf, Carries};
 
-// The mask of the indexes from `from` up to but without `upto`, of which there is one at least.
-pub fn mask(order: Order, from: Index, upto: End) -> Mask
-    requires { ⌜ (from .0 < upto .0) × (upto .0 ≤ 64) ⌝ }
-    ensures { λ r. ⌜ r .0 ≡ mask 64 order (from .0) (upto .0) ⌝ }
+// The mask of the n positions from `lowest` up, of which there is one at least.
+fn ones(lowest: Position, n: usize) -> Mask
+    requires { ⌜ (1 ≤ n) × (lowest .0 + n ≤ 64) ⌝ }
+    ensures { λ r. ⌜ r .0 ≡ (2 ^ n - 1) * 2 ^ lowest .0 ⌝ }
 {
-    let f = from.0;
-    let u = upto.0;
-    let n = u - f;
+    let p = lowest.0;
+    let low = 0xffff_ffff_ffff_ffffu64 >> (64 - n);
+    let moved = low << p;
+    Mask(moved as u64)
+}
+
+// The mask of the n indexes from `head` on, of which there is one at least.
+pub fn mask(order: Order, head: Index, n: usize) -> Mask
+    requires { ⌜ (1 ≤ n) × (head .0 + n ≤ 64) ⌝ }
+    ensures { λ r. ⌜ r .0 ≡ mask 64 order (head .0) (head .0 + n) ⌝ }
+{
+    let h = head.0;
     match order {
-        Order::Lsb0 => Position(f).mask(n),
-        Order::Msb0 => Position(64 - u).mask(n),
+        Order::Lsb0 => ones(Position(h), n),
+        Order::Msb0 => ones(Position(64 - h - n), n),
     }
 }
 
@@ -126,9 +134,7 @@ pub fn put(words: &mut [u64], order: Order, d: usize, n: usize, v: u64)
     ensures { λ _. ⌜ now (words .exit) ≡ spliced 64 order (now (words .entry)) d n (λ i. bitN v (position 64 order (d % 64 + i))) ⌝ }
 {
     let word = d / 64;
-    let h = d % 64;
-    let end = h + n;
-    let m = mask(order, Index(h), End(end));
+    let m = mask(order, Index(d % 64), n);
     let x = select(m, words[word], v);
     words[word] = x;
 }

@@ -10,9 +10,6 @@ use Rattle.equal64.proofs.differ_piece.Tie as tie
 returns : tie.Need-returns
 returns c = search needs
 
-add-end : tie.Need-add-end
-add-end c = search needs
-
 fetch-requires : tie.Need-fetch-requires
 fetch-requires c κs = search needs
 
@@ -41,4 +38,4 @@ returns-2 c =
 pub differ-piece-spec : {M : Type 1} → statement M
 differ-piece-spec =
     tie.close
-    (tie.spec returns add-end fetch-requires mask-requires mul-x shared-slice-read-x under-requires returns-2)
+    (tie.spec returns fetch-requires mask-requires mul-x shared-slice-read-x under-requires returns-2)

@@ -11,9 +11,6 @@ use Rattle.rules.proofs.Merged.{put-piece}
 use Rattle.word64.proofs.put.Statement.{statement}
 use Rattle.word64.proofs.put.Tie as tie
 
-add-end : tie.Need-add-end
-add-end c = search needs
-
 mask-requires : tie.Need-mask-requires
 mask-requires c κs = search needs
 
@@ -47,7 +44,6 @@ pub put-spec : {M : Type 1} → statement M
 put-spec =
     tie.close
     (tie.spec
-    add-end
     mask-requires
     mul-select
     slice-read-select

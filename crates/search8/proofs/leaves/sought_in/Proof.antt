@@ -9,9 +9,6 @@ use Rattle.search8.proofs.leaves.sought_in.Tie as tie
 flip-requires : tie.Need-flip-requires
 flip-requires c κs = search needs
 
-add-end : tie.Need-add-end
-add-end c = search needs
-
 mask-requires : tie.Need-mask-requires
 mask-requires c κs = search needs
 
@@ -31,4 +28,4 @@ returns c =
 pub sought-in-spec : {M : Type 1} → statement M
 sought-in-spec =
     tie.close
-    (tie.spec flip-requires add-end mask-requires shared-slice-read-x under-requires returns)
+    (tie.spec flip-requires mask-requires shared-slice-read-x under-requires returns)

@@ -1,0 +1,21 @@
+-- `ones`: all ones of the word moved down to n of them, then up to the position. Assumes nothing.
+use borrow.Author.Needs.{needs}
+use native.Mathlib.Omega.{arith}
+use Rattle.rules.proofs.MaskBits.{ones-moved}
+use Rattle.word64.proofs.ones.Statement.{statement}
+use Rattle.word64.proofs.ones.Tie as tie
+
+sub-low : tie.Need-sub-low
+sub-low c = search needs
+
+shr-low : tie.Need-shr-low
+shr-low c = search needs
+
+shl-moved : tie.Need-shl-moved
+shl-moved c = search needs
+
+returns : tie.Need-returns
+returns c = ones-moved 64 (c .args .lowest .0) (c .args .n) (omega arith)
+
+pub ones-spec : {M : Type 1} → statement M
+ones-spec = tie.close (tie.spec sub-low shr-low shl-moved returns)
