@@ -16,7 +16,7 @@ use Rattle.rules.specs.Bits.{bitN}
 use Rattle.rules.specs.Positions.{start, spanBit}
 use Rattle.rules.specs.Fields.{exponent, loadOf, readAs, signedOf, bitsOf, storeOf, isInteger}
 use Rattle.rules.specs.Refusals.{verdict, _when_, spanCases, fieldCases, valueCases, fittingCases, loadCases, storeCases, strictCases}
-use Rattle.rules.specs.Calls.{Answer, done, a-number, said, Call, load, store, strictStore, spanCovers, cases, answer!, after!, answer, after, writes!}
+use Rattle.rules.specs.Calls.{Answer, done, a-number, said, Call, load, store, strictStore, spanCovers, cases, answer!, after!, answer, after, writes! }
 use Rattle.rules.proofs.Row.{Words}
 use Rattle.rules.proofs.Field.{load-lt, load-bit, store-load, store-low}
 use Rattle.rules.proofs.Signed.{signed-range, signed-low}

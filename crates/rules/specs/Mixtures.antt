@@ -7,7 +7,7 @@ use mathlib.Core.List.{List, [], _∷_}
 use Rattle.rules.specs.Types.{Fine}
 use Rattle.rules.specs.Bits.{bitAt}
 use Rattle.rules.specs.Refusals.{verdict}
-use Rattle.rules.specs.Calls.{Answer, refused, Call, cases, answer, after, reads!, writes!}
+use Rattle.rules.specs.Calls.{Answer, refused, Call, cases, answer, after, reads!, writes! }
 
 -- ---- two parties
 

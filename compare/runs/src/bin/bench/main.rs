@@ -4,7 +4,11 @@
 //!     bench quick      the same, shorter: only the longest rows
 //!     bench DOCS       measures, prints, and renews DOCS/BENCHMARKS.md and DOCS/benchmarks.svg
 
-use std::{fs, path::Path, process::ExitCode};
+use std::{
+    fs,
+    path::Path,
+    process::{Command, ExitCode},
+};
 
 use line::{Line, Part};
 use measures::{measure, Effort, LONGEST};
@@ -87,10 +91,14 @@ fn renew(docs: &Path, lines: &[Line]) {
     fs::write(docs.join("benchmarks.svg"), picture::svg(&shown)).expect("the picture to be writable");
 }
 
-/// The processor's name, as the system tells it.
+/// The processor's name, as the system tells it: on Arm only `lscpu` knows one.
 fn processor() -> String {
-    let about = fs::read_to_string("/proc/cpuinfo").unwrap_or_default();
-    let name = about.lines().find_map(|line| line.strip_prefix("model name")?.split_once(':'));
+    let about = Command::new("lscpu")
+        .env("LC_ALL", "C")
+        .output()
+        .map(|told| String::from_utf8_lossy(&told.stdout).into_owned())
+        .unwrap_or_default();
+    let told = |what| about.lines().find_map(|line| line.strip_prefix(what)).map(str::trim);
     let cores = std::thread::available_parallelism().map_or(1, |cores| cores.get());
-    format!("{}, {cores} cores", name.map_or("unknown processor", |(_, name)| name.trim()))
+    format!("{} ({}), {cores} cores", told("Model name:").unwrap_or("unknown processor"), std::env::consts::ARCH)
 }
