@@ -1,4 +1,5 @@
 -- `last_zero`: refused by the span's table, or the row's answer. Assumes nothing.
+use native.Mathlib.Omega.{arith}
 use borrow.Author.Needs.{needs}
 use mathlib.Core.Path.{sym, _∙_}
 use Rattle.rules.proofs.Tables.{fine-inside}
@@ -19,7 +20,7 @@ enum-told c = search needs
 last-in-row-requires : tie.Need-last-in-row-requires
 last-in-row-requires c κs =
     let p = fine-inside 64 _ _ (sym (judged (c .before .before .checked .ensures)) ∙ c .enum-told .given .1) in
-    (p .starts, p .ends, p .few)
+    (p .starts, omega arith, p .few)
 
 last-answer-requires : tie.Need-last-answer-requires
 last-answer-requires c κs = search needs
