@@ -10,13 +10,13 @@ enum-told : tie.Need-enum-told
 enum-told c = search needs
 
 cast-t5 : tie.Need-cast-t5
-cast-t5 c = omega (arith, trailing-le 64 (c .before .before .args .word))
+cast-t5 c = omega (arith, trailing-le 64 (c .before .before .args .word), leading-le 64 (c .before .before .args .word))
 
 enum-told-2 : tie.Need-enum-told-2
 enum-told-2 c = search needs
 
 cast-t7 : tie.Need-cast-t7
-cast-t7 c = omega (arith, leading-le 64 (c .before .before .args .word))
+cast-t7 c = omega (arith, trailing-le 64 (c .before .before .args .word), leading-le 64 (c .before .before .args .word))
 
 returns : tie.Need-returns
 returns c = first-lsb0 64 _ (search needs)
