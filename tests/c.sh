@@ -47,4 +47,6 @@ else
 fi
 try 'fields to count compile' c11 "$root/compare/instructions/fields.c" "$archive" -o "$work/fields"
 try 'fields to count are accepted' run "$work/fields" store 8 1 64 1 0
+try 'rows to count compile' c11 "$root/compare/instructions/rows.c" "$archive" -o "$work/rows"
+try 'rows to count are accepted' run "$work/rows" copy_within 8 1
 say_count
