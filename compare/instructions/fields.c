@@ -5,6 +5,7 @@
 #include <stdlib.h>
 #include <string.h>
 
+#include "random.h"
 #include "stableply.h"
 
 enum { FIELDS = 1024, WORDS = 8192 };
@@ -12,16 +13,6 @@ enum { FIELDS = 1024, WORDS = 8192 };
 static uint64_t wide[WORDS];
 static uint8_t narrow[WORDS];
 static size_t word[FIELDS], head[FIELDS];
-
-static uint64_t state = 88172645463325252u;
-
-/* A random number below `bound`. */
-static size_t below(size_t bound) {
-    state ^= state << 13;
-    state ^= state >> 7;
-    state ^= state << 17;
-    return state % bound;
-}
 
 /* All fields loaded, and all stored, at one width: not 0 where one is refused. */
 #define LOOPS(width, words)                                                                                              \

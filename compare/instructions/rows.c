@@ -5,6 +5,7 @@
 #include <stdlib.h>
 #include <string.h>
 
+#include "random.h"
 #include "stableply.h"
 
 enum { REQUESTS = 256, WORDS = 512 };
@@ -12,16 +13,6 @@ enum { REQUESTS = 256, WORDS = 512 };
 static uint64_t wide[WORDS], wide_other[WORDS];
 static uint8_t narrow[WORDS], narrow_other[WORDS];
 static size_t word[REQUESTS], head[REQUESTS], length[REQUESTS], other_word[REQUESTS], other_head[REQUESTS];
-
-static uint64_t state = 88172645463325252u;
-
-/* A random number below `bound`. */
-static size_t below(size_t bound) {
-    state ^= state << 13;
-    state ^= state >> 7;
-    state ^= state << 17;
-    return state % bound;
-}
 
 /* All requests put to one call: not 0 where one is refused. */
 #define LOOP(name, width, call)                                              \
