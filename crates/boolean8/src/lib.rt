@@ -17,7 +17,7 @@ ghost use lib.ListN.{length, getD};
 ghost use Rattle.rules.specs.Bits.{bitN};
 ghost use Rattle.rules.specs.Positions.{position, row, spliced};
 ghost use Rattle.rules.specs.Rows.{applied};
-ghost use Rattle.rules.specs.Calls.{combine, answer, after};
+ghost use Rattle.rules.specs.Calls.{boolean, answer, after};
 ghost use Rattle.rules.specs.Answers.{writeSays, Gives};
 ghost use Rattle.rules.proofs.Funnel.{funneled};
 ghost use Rattle.rules.proofs.Merged.{selected};
@@ -316,7 +316,7 @@ pub fn boolean(
     right_span: Span,
     operation: u8,
 ) -> WriteAnswer
-    ensures { λ r. ⌜ Gives (answer 8 (combine operation span (now (right .entry)) «right_span») (now (words .entry))) (after 8 (combine operation span (now (right .entry)) «right_span») (now (words .entry))) (writeSays r) (now (words .exit)) ⌝ }
+    ensures { λ r. ⌜ Gives 8 (boolean operation span (now (right .entry)) «right_span») (now (words .entry)) (writeSays r) (now (words .exit)) ⌝ }
 {
     let verdict = check_pair(Width::W8, words.len(), span, right.len(), right_span);
     match verdict {

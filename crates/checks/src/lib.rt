@@ -7,7 +7,7 @@ use rules::Width;
 ghost use mathlib.Core.Path.{_≡_};
 ghost use mathlib.Core.Bool.{not};
 ghost use Rattle.rules.specs.Bits.{bits};
-ghost use Rattle.rules.specs.Refusals.{sameOrder, pairCases, copyCases, insideCases};
+ghost use Rattle.rules.specs.Refusals.{sameOrder, pairCases, copyCases, withinCases};
 ghost use Rattle.rules.specs.Answers.{Judges};
 
 // Whether two orders differ.
@@ -69,7 +69,7 @@ pub fn check_copy(width: Width, lent: usize, left: Span, right_lent: usize, righ
 }
 
 // Copy inside: 1 to 3, 10. No sum is made that could be too large.
-pub fn check_move(
+pub fn check_copy_within(
     width: Width,
     lent: usize,
     span: Span,
@@ -77,7 +77,7 @@ pub fn check_move(
     count: usize,
     to: usize,
 ) -> Verdict
-    ensures { λ r. ⌜ Judges (insideCases (bits width) lent span from count to) r ⌝ }
+    ensures { λ r. ⌜ Judges (withinCases (bits width) lent span from count to) r ⌝ }
 {
     let one = span.check(width, lent);
     match one {

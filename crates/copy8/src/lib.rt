@@ -14,7 +14,7 @@ ghost use mathlib.Core.Path.{_≡_};
 ghost use Prim.Native.Nat.{ℕ, _+_, _*_, _%_, _≤_, _<_};
 ghost use lib.ListN.{length, getD};
 ghost use Rattle.rules.specs.Positions.{row, spliced};
-ghost use Rattle.rules.specs.Calls.{copyBetween, answer, after};
+ghost use Rattle.rules.specs.Calls.{copyFrom, answer, after};
 ghost use Rattle.rules.specs.Answers.{writeSays, Gives};
 ghost use Rattle.rules.proofs.Funnel.{funneled};
 
@@ -124,7 +124,7 @@ pub fn copy_row(words: &mut [u8], order: Order, d: usize, source: &[u8], s: usiz
 
 // Bit i of the target becomes bit i of the source, lengths equal: 1 to 3 of the target, 1 to 3 of the source, 6, 7.
 pub fn copy_from(words: &mut [u8], span: Span, source: &[u8], source_span: Span) -> WriteAnswer
-    ensures { λ r. ⌜ Gives (answer 8 (copyBetween span (now (source .entry)) «source_span») (now (words .entry))) (after 8 (copyBetween span (now (source .entry)) «source_span») (now (words .entry))) (writeSays r) (now (words .exit)) ⌝ }
+    ensures { λ r. ⌜ Gives 8 (copyFrom span (now (source .entry)) «source_span») (now (words .entry)) (writeSays r) (now (words .exit)) ⌝ }
 {
     let verdict = check_copy(Width::W8, words.len(), span, source.len(), source_span);
     match verdict {

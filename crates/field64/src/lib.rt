@@ -22,7 +22,7 @@ use rules::Width;
 use rules::WriteAnswer;
 ghost use mathlib.Core.Path.{_≡_};
 ghost use Rattle.rules.specs.Fields.{whole};
-ghost use Rattle.rules.specs.Calls.{readBit, writeBit, load as loadCall, store as storeCall, strictStore, answer, after, digit};
+ghost use Rattle.rules.specs.Calls.{readBit, writeBit, load as loadCall, store as storeCall, storeStrict, answer, after, digit};
 ghost use Rattle.rules.specs.Answers.{bitSays, numberSays, writeSays, Gives};
 
 // Bit `index` of a span; refusals 1 to 3 and 10.
@@ -53,7 +53,7 @@ fn digit_of(bit: bool) -> u64
 
 // Bit `index` of a span becomes `bit`, all others stay; refusals 1 to 3 and 10.
 pub fn write_bit(words: &mut [u64], span: Span, index: usize, bit: bool) -> WriteAnswer
-    ensures { λ r. ⌜ Gives (answer 64 (writeBit span index bit) (now (words .entry))) (after 64 (writeBit span index bit) (now (words .entry))) (writeSays r) (now (words .exit)) ⌝ }
+    ensures { λ r. ⌜ Gives 64 (writeBit span index bit) (now (words .entry)) (writeSays r) (now (words .exit)) ⌝ }
 {
     let verdict = pieces::check_bit(Width::W64, words.len(), span, index);
     match verdict {
@@ -100,7 +100,7 @@ pub fn store(
     sign: Sign,
     value: Number,
 ) -> WriteAnswer
-    ensures { λ r. ⌜ Gives (answer 64 (storeCall span k significance sign (whole value)) (now (words .entry))) (after 64 (storeCall span k significance sign (whole value)) (now (words .entry))) (writeSays r) (now (words .exit)) ⌝ }
+    ensures { λ r. ⌜ Gives 64 (storeCall span k significance sign (whole value)) (now (words .entry)) (writeSays r) (now (words .exit)) ⌝ }
 {
     let verdict = pieces::check_store(Width::W64, words.len(), span, k, sign, value);
     match verdict {
@@ -131,9 +131,9 @@ pub fn store_strict(
     sign: Sign,
     value: Number,
 ) -> WriteAnswer
-    ensures { λ r. ⌜ Gives (answer 64 (strictStore span k significance sign (whole value)) (now (words .entry))) (after 64 (strictStore span k significance sign (whole value)) (now (words .entry))) (writeSays r) (now (words .exit)) ⌝ }
+    ensures { λ r. ⌜ Gives 64 (storeStrict span k significance sign (whole value)) (now (words .entry)) (writeSays r) (now (words .exit)) ⌝ }
 {
-    let verdict = pieces::check_strict(Width::W64, words.len(), span, k, sign, value);
+    let verdict = pieces::check_store_strict(Width::W64, words.len(), span, k, sign, value);
     match verdict {
         Verdict::Refused(no) => WriteAnswer::Refused(no),
         Verdict::Fine => {

@@ -82,7 +82,7 @@ fn find_zero(words: &mut [u8]) {
     step(
         b"second  first zero                | ",
         words,
-        Request::First(false, high()),
+        Request::FindFirst(false, high()),
     );
 }
 

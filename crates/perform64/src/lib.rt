@@ -55,7 +55,7 @@ fn last(words: &[u64], bit: bool, span: Span) -> Reply
 
 // Performs a request on the words, with a second, read-only buffer beside it.
 pub fn perform(words: &mut [u64], other: &[u64], request: Request) -> Reply
-    ensures { λ r. ⌜ Gives (answer 64 (callOf request (now (other .entry))) (now (words .entry))) (after 64 (callOf request (now (other .entry))) (now (words .entry))) (replySays r) (now (words .exit)) ⌝ }
+    ensures { λ r. ⌜ Gives 64 (callOf request (now (other .entry))) (now (words .entry)) (replySays r) (now (words .exit)) ⌝ }
 {
     match request {
         Request::ReadBit(span, index) => Reply::of_bit(field64::read_bit(words, span, index)),
@@ -75,7 +75,7 @@ pub fn perform(words: &mut [u64], other: &[u64], request: Request) -> Reply
             Reply::of_write(copy64::copy_from(words, span, other, source))
         }
         Request::CopyWithin(span, start, count, destination) => {
-            Reply::of_write(inside64::copy_within(words, span, start, count, destination))
+            Reply::of_write(within64::copy_within(words, span, start, count, destination))
         }
         Request::Boolean(span, right, operation) => {
             Reply::of_write(boolean64::boolean(words, span, other, right, operation))
@@ -83,7 +83,7 @@ pub fn perform(words: &mut [u64], other: &[u64], request: Request) -> Reply
         Request::Equal(left, left_span, right, right_span) => {
             equal(words, other, left, left_span, right, right_span)
         }
-        Request::First(bit, span) => first(words, bit, span),
-        Request::Last(bit, span) => last(words, bit, span),
+        Request::FindFirst(bit, span) => first(words, bit, span),
+        Request::FindLast(bit, span) => last(words, bit, span),
     }
 }

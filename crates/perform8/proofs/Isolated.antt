@@ -25,7 +25,7 @@ pub data Performs : List ℕ → Request → List ℕ → Reply → List ℕ →
   kept : (κs a r x : _) → perform.Post κs a r x → Performs (now (a .0)) (a .1 .1 .0) (now (a .1 .0)) r (now (x .0))
 
 promise : (ws : List ℕ) (request : Request) (other : List ℕ) (reply : Reply) (ms : List ℕ) → Performs ws request other reply ms
-    → Gives (answer 8 (callOf request other) ws) (after 8 (callOf request other) ws) (replySays reply) ms
+    → Gives 8 (callOf request other) ws (replySays reply) ms
 promise ws request other reply ms (kept κs a r x p) = p
 
 -- Whatever two parties ask of `perform`, mixed in any way, each within its own positions: neither is disturbed.

@@ -55,7 +55,7 @@ fn last(words: &[u8], bit: bool, span: Span) -> Reply
 
 // Performs a request on the words, with a second, read-only buffer beside it.
 pub fn perform(words: &mut [u8], other: &[u8], request: Request) -> Reply
-    ensures { λ r. ⌜ Gives (answer 8 (callOf request (now (other .entry))) (now (words .entry))) (after 8 (callOf request (now (other .entry))) (now (words .entry))) (replySays r) (now (words .exit)) ⌝ }
+    ensures { λ r. ⌜ Gives 8 (callOf request (now (other .entry))) (now (words .entry)) (replySays r) (now (words .exit)) ⌝ }
 {
     match request {
         Request::ReadBit(span, index) => Reply::of_bit(field8::read_bit(words, span, index)),
@@ -75,7 +75,7 @@ pub fn perform(words: &mut [u8], other: &[u8], request: Request) -> Reply
             Reply::of_write(copy8::copy_from(words, span, other, source))
         }
         Request::CopyWithin(span, start, count, destination) => {
-            Reply::of_write(inside8::copy_within(words, span, start, count, destination))
+            Reply::of_write(within8::copy_within(words, span, start, count, destination))
         }
         Request::Boolean(span, right, operation) => {
             Reply::of_write(boolean8::boolean(words, span, other, right, operation))
@@ -83,7 +83,7 @@ pub fn perform(words: &mut [u8], other: &[u8], request: Request) -> Reply
         Request::Equal(left, left_span, right, right_span) => {
             equal(words, other, left, left_span, right, right_span)
         }
-        Request::First(bit, span) => first(words, bit, span),
-        Request::Last(bit, span) => last(words, bit, span),
+        Request::FindFirst(bit, span) => first(words, bit, span),
+        Request::FindLast(bit, span) => last(words, bit, span),
     }
 }

@@ -4,7 +4,7 @@ mod refusals;
 pub use refusals::check_bit;
 pub use refusals::check_load;
 pub use refusals::check_store;
-pub use refusals::check_strict;
+pub use refusals::check_store_strict;
 use rules::Index;
 use rules::Order;
 use rules::Position;

@@ -11,7 +11,7 @@ ghost use mathlib.Core.Bool.{true, false};
 ghost use Rattle.rules.specs.declared.Verdict.the-variants.{Fine, Refused};
 ghost use Rattle.rules.specs.Bits.{bits};
 ghost use Rattle.rules.specs.Fields.{whole};
-ghost use Rattle.rules.specs.Refusals.{verdict, bitCases, loadCases, storeCases, strictCases};
+ghost use Rattle.rules.specs.Refusals.{verdict, bitCases, loadCases, storeCases, storeStrictCases};
 ghost use Rattle.rules.specs.Answers.{Judges};
 ghost use Rattle.rules.proofs.Begun.{Begun};
 ghost use Rattle.rules.proofs.Chunks.{chunk};
@@ -140,7 +140,7 @@ pub fn check_store(
 }
 
 // Strict store: 1 to 3, then 4, 5, 8 and 9.
-pub fn check_strict(
+pub fn check_store_strict(
     width: Width,
     lent: usize,
     span: Span,
@@ -148,7 +148,7 @@ pub fn check_strict(
     sign: Sign,
     value: Number,
 ) -> Verdict
-    ensures { λ r. ⌜ Judges (strictCases (bits width) lent span k sign (whole value)) r ⌝ }
+    ensures { λ r. ⌜ Judges (storeStrictCases (bits width) lent span k sign (whole value)) r ⌝ }
 {
     let verdict = span.check(width, lent);
     match verdict {

@@ -6,9 +6,9 @@ use Rattle.rules.specs.Calls.{Answer, Call, answer, after}
 use Rattle.rules.specs.Answers.{Gives}
 
 -- a reading call: its reply, and the buffer as it was
-pub read : (W : ℕ) (c : Call) (ws : List ℕ) {r a : Answer} {m : List ℕ} → r ≡ a → a ≡ answer W c ws → after W c ws ≡ ws → m ≡ ws → Gives (answer W c ws) (after W c ws) r m
+pub read : (W : ℕ) (c : Call) (ws : List ℕ) {r a : Answer} {m : List ℕ} → r ≡ a → a ≡ answer W c ws → after W c ws ≡ ws → m ≡ ws → Gives W c ws r m
 read W c ws d e f g = record { answers = d ∙ e; holds = g ∙ sym f }
 
 -- a writing call: its promise, with the reply for the answer
-pub wrote : {r a answer : Answer} {memory m : List ℕ} → r ≡ a → Gives answer memory a m → Gives answer memory r m
+pub wrote : {W : ℕ} {c : Call} {ws : List ℕ} {r a : Answer} {m : List ℕ} → r ≡ a → Gives W c ws a m → Gives W c ws r m
 wrote d g = record { answers = d ∙ g .answers; holds = g .holds }

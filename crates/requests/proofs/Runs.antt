@@ -47,7 +47,7 @@ hers-map f two (of two a ∷ t) = ap (λ r. f a ∷ r) (hers-map f two t)
 
 module _ (W : ℕ) (wide : 0 < W) (Performs : List ℕ → Request → List ℕ → Reply → List ℕ → Type 0)
     (promise : (ws : List ℕ) (request : Request) (other : List ℕ) (reply : Reply) (ms : List ℕ) → Performs ws request other reply ms
-    → Gives (answer W (callOf request other) ws) (after W (callOf request other) ws) (replySays reply) ms) where
+    → Gives W (callOf request other) ws (replySays reply) ms) where
   -- what comes back says what is answered, and the buffer is what is left
   run-answers : (s : List Exchange) (ws vs : List ℕ) → Run Performs ws s vs → map (λ e. says (got e)) s ≡ answers (told W) (left W) (map asked s) ws
   unfolding answers

@@ -7,7 +7,7 @@ use Rattle.rules.specs.Calls as calls
 use Rattle.requests.specs.declared.Side.{Side}
 use Rattle.requests.specs.declared.Side.the-variants.{Here, There}
 use Rattle.requests.specs.declared.Request.{Request}
-use Rattle.requests.specs.declared.Request.the-variants.{ReadBit, WriteBit, Load, Store, StoreStrict, CopyFrom, CopyWithin, Boolean, Equal, First, Last}
+use Rattle.requests.specs.declared.Request.the-variants.{ReadBit, WriteBit, Load, Store, StoreStrict, CopyFrom, CopyWithin, Boolean, Equal, FindFirst, FindLast}
 use Rattle.requests.specs.declared.Reply.{Reply}
 use Rattle.requests.specs.declared.Reply.the-variants.{Refused, Done, Bit, Number, Yes, No, At, Absent}
 
@@ -22,13 +22,13 @@ callOf (ReadBit s i) vs = calls.readBit s i
 callOf (WriteBit s i b) vs = calls.writeBit s i b
 callOf (Load s K e g) vs = calls.load s K e g
 callOf (Store s K e g v) vs = calls.store s K e g (whole v)
-callOf (StoreStrict s K e g v) vs = calls.strictStore s K e g (whole v)
-callOf (CopyFrom s t) vs = calls.copyBetween s vs t
-callOf (CopyWithin s from count to) vs = calls.copyInside s from count to
-callOf (Boolean s t op) vs = calls.combine op s vs t
+callOf (StoreStrict s K e g v) vs = calls.storeStrict s K e g (whole v)
+callOf (CopyFrom s t) vs = calls.copyFrom s vs t
+callOf (CopyWithin s from count to) vs = calls.copyWithin s from count to
+callOf (Boolean s t op) vs = calls.boolean op s vs t
 callOf (Equal a s b t) vs = calls.equal (sideOf a vs) s (sideOf b vs) t
-callOf (First b s) vs = calls.findFirst (calls.digit b) s
-callOf (Last b s) vs = calls.findLast (calls.digit b) s
+callOf (FindFirst b s) vs = calls.findFirst (calls.digit b) s
+callOf (FindLast b s) vs = calls.findLast (calls.digit b) s
 
 -- what a reply says
 abbrev pub replySays : Reply → calls.Answer

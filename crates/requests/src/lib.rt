@@ -24,8 +24,8 @@ pub enum Request {
     CopyWithin(Span, usize, usize, usize),
     Boolean(Span, Span, u8),
     Equal(Side, Span, Side, Span),
-    First(bool, Span),
-    Last(bool, Span),
+    FindFirst(bool, Span),
+    FindLast(bool, Span),
 }
 
 // What they answer.

@@ -10,7 +10,7 @@ use lib.IntN.{ℤ}
 use borrow.Author.Tests.{ltb-false, leb-false, eqb-true, eqb-false, not-false}
 use Rattle.rules.specs.Types.{Order, Lsb0, Msb0, Span, Sign, NotBelow, NoSuchK, FieldLength, NotAnInteger, DoesNotFit, OrdersDiffer, LengthsDiffer, Fine}
 use Rattle.rules.specs.Fields.{isSize, isInteger, fits}
-use Rattle.rules.specs.Refusals.{verdict, _when_, spanCases, splitCases, bitCases, fieldCases, valueCases, fittingCases, loadCases, storeCases, strictCases, sameOrder, pairCases, copyCases, insideCases}
+use Rattle.rules.specs.Refusals.{verdict, _when_, spanCases, splitCases, bitCases, fieldCases, valueCases, fittingCases, loadCases, storeCases, storeStrictCases, sameOrder, pairCases, copyCases, withinCases}
 use Rattle.rules.proofs.Tables.{Inside, fine-inside, fine-parts, fine-row}
 
 neither : (a b : Bool) → (a || b) ≡ false → (a ≡ false) × (b ≡ false)
@@ -131,8 +131,8 @@ pub record Strict (W n : ℕ) (s : Span) (K : ℕ) (g : Sign) (v : ℤ) : Type 0
   pub lies : Inside W n s
   pub fitted : Fitted K (s .len) g v
 
-pub fine-strict : (W n : ℕ) (s : Span) (K : ℕ) (g : Sign) (v : ℤ) → verdict (strictCases W n s K g v) ≡ Fine → Strict W n s K g v
-unfolding strictCases
+pub fine-strict : (W n : ℕ) (s : Span) (K : ℕ) (g : Sign) (v : ℤ) → verdict (storeStrictCases W n s K g v) ≡ Fine → Strict W n s K g v
+unfolding storeStrictCases
 fine-strict W n s K g v e =
     let f = fine-parts (spanCases W n s) (fittingCases K (s .len) g v) e in
     record { lies = fine-inside W n s (f .0); fitted = fine-fitted K (s .len) g v (f .1) }
@@ -181,8 +181,8 @@ pub record Move (W n : ℕ) (s : Span) (from count to : ℕ) : Type 0 where
   pub source : from + count ≤ s .len
   pub target : to + count ≤ s .len
 
-pub fine-move : (W n : ℕ) (s : Span) (from count to : ℕ) → verdict (insideCases W n s from count to) ≡ Fine → Move W n s from count to
-unfolding insideCases
+pub fine-move : (W n : ℕ) (s : Span) (from count to : ℕ) → verdict (withinCases W n s from count to) ≡ Fine → Move W n s from count to
+unfolding withinCases
 fine-move W n s from count to e =
     let b = ltb (s .len) (from + count) || ltb (s .len) (to + count) in
     let f = fine-parts (spanCases W n s) (NotBelow when b ∷ []) e in

@@ -8,8 +8,8 @@ use lib.IntN.{ℤ}
 use Rattle.rules.specs.Types.{Span, Significance, Sign, Number, Refusal, Verdict, Fine, Refused, NumberAnswer, Number·Is, Number·Refused, WriteAnswer, Done, Write·Refused, NotAnInteger, DoesNotFit}
 use Rattle.rules.specs.Positions.{start}
 use Rattle.rules.specs.Fields.{loadOf, storeOf, readAs, whole, bitsOf, isInteger, fits}
-use Rattle.rules.specs.Refusals.{Case, number, verdict, _when_, spanCases, fieldCases, valueCases, fittingCases, loadCases, storeCases, strictCases}
-use Rattle.rules.specs.Calls.{load, store, strictStore, cases, answer!, after!, answer, after, a-number}
+use Rattle.rules.specs.Refusals.{Case, number, verdict, _when_, spanCases, fieldCases, valueCases, fittingCases, loadCases, storeCases, storeStrictCases}
+use Rattle.rules.specs.Calls.{load, store, storeStrict, cases, answer!, after!, answer, after, a-number}
 use Rattle.rules.specs.Answers.{numberSays, writeSays, Gives}
 use Rattle.rules.proofs.Field.{store-alike}
 use Rattle.rules.proofs.Tables.{andThen, verdict-append, stops, goes, fine-parts}
@@ -31,37 +31,37 @@ module _ (W : ℕ) (ws : List ℕ) (s : Span) (K : ℕ) (e : Significance) (g : 
 
 module _ (W : ℕ) (ws : List ℕ) (s : Span) (K : ℕ) (e : Significance) (g : Sign) (v : ℤ) where
   pub store-refused : {r : Refusal} {m : List ℕ} → verdict (storeCases W (length ws) s K g v) ≡ Refused r → m ≡ ws
-      → Gives (answer W (store s K e g v) ws) (after W (store s K e g v) ws) (writeSays (Write·Refused r)) m
+      → Gives W (store s K e g v) ws (writeSays (Write·Refused r)) m
   unfolding cases
   store-refused {r} h q = let c = refused-call W (store s K e g v) ws r h in record { answers = sym (c .0); holds = q ∙ sym (c .1) }
 
   pub store-done : verdict (storeCases W (length ws) s K g v) ≡ Fine → 0 < W → s .len ≤ K → {m : List ℕ} (b : ℕ) → b % 2 ^ K ≡ bitsOf K v
-      → m ≡ storeOf W (s .order) e ws (start W s) (s .len) b → Gives (answer W (store s K e g v) ws) (after W (store s K e g v) ws) (writeSays Done) m
+      → m ≡ storeOf W (s .order) e ws (start W s) (s .len) b → Gives W (store s K e g v) ws (writeSays Done) m
   unfolding cases answer! after!
   store-done h w l b p q =
       let c = accepted-call W (store s K e g v) ws h in
       record { answers = sym (c .0); holds = q ∙ store-alike W w (s .order) e ws (start W s) (s .len) K b l p ∙ sym (c .1) }
 
-  pub strict-refused : {r : Refusal} {m : List ℕ} → verdict (strictCases W (length ws) s K g v) ≡ Refused r → m ≡ ws
-      → Gives (answer W (strictStore s K e g v) ws) (after W (strictStore s K e g v) ws) (writeSays (Write·Refused r)) m
+  pub strict-refused : {r : Refusal} {m : List ℕ} → verdict (storeStrictCases W (length ws) s K g v) ≡ Refused r → m ≡ ws
+      → Gives W (storeStrict s K e g v) ws (writeSays (Write·Refused r)) m
   unfolding cases
-  strict-refused {r} h q = let c = refused-call W (strictStore s K e g v) ws r h in record { answers = sym (c .0); holds = q ∙ sym (c .1) }
+  strict-refused {r} h q = let c = refused-call W (storeStrict s K e g v) ws r h in record { answers = sym (c .0); holds = q ∙ sym (c .1) }
 
-  pub strict-done : verdict (strictCases W (length ws) s K g v) ≡ Fine → 0 < W → s .len ≤ K → {m : List ℕ} (b : ℕ) → b % 2 ^ K ≡ bitsOf K v
-      → m ≡ storeOf W (s .order) e ws (start W s) (s .len) b → Gives (answer W (strictStore s K e g v) ws) (after W (strictStore s K e g v) ws) (writeSays Done) m
+  pub strict-done : verdict (storeStrictCases W (length ws) s K g v) ≡ Fine → 0 < W → s .len ≤ K → {m : List ℕ} (b : ℕ) → b % 2 ^ K ≡ bitsOf K v
+      → m ≡ storeOf W (s .order) e ws (start W s) (s .len) b → Gives W (storeStrict s K e g v) ws (writeSays Done) m
   unfolding cases answer! after!
   strict-done h w l b p q =
-      let c = accepted-call W (strictStore s K e g v) ws h in
+      let c = accepted-call W (storeStrict s K e g v) ws h in
       record { answers = sym (c .0); holds = q ∙ store-alike W w (s .order) e ws (start W s) (s .len) K b l p ∙ sym (c .1) }
 
   -- what strict store accepts, store accepts too, and leaves the same
-  pub strict-by-store : verdict (strictCases W (length ws) s K g v) ≡ Fine
-      → (answer W (store s K e g v) ws ≡ answer W (strictStore s K e g v) ws) × (after W (store s K e g v) ws ≡ after W (strictStore s K e g v) ws)
-  unfolding cases answer! after! strictCases storeCases fittingCases
+  pub strict-by-store : verdict (storeStrictCases W (length ws) s K g v) ≡ Fine
+      → (answer W (store s K e g v) ws ≡ answer W (storeStrict s K e g v) ws) × (after W (store s K e g v) ws ≡ after W (storeStrict s K e g v) ws)
+  unfolding cases answer! after! storeStrictCases storeCases fittingCases
   strict-by-store h =
       let p = fine-parts (spanCases W (length ws) s) (fittingCases K (s .len) g v) h in
       let q = fine-parts (valueCases K (s .len) g v) (DoesNotFit when not (fits (s .len) g v) ∷ []) (p .1) in
-      let c = accepted-call W (strictStore s K e g v) ws h in
+      let c = accepted-call W (storeStrict s K e g v) ws h in
       let d = accepted-call W (store s K e g v) ws (goes (spanCases W (length ws) s) (valueCases K (s .len) g v) (p .0) ∙ q .0) in
       (d .0 ∙ sym (c .0), d .1 ∙ sym (c .1))
 

@@ -15,8 +15,8 @@ use Rattle.rules.specs.Types.{Lsb0, Msb0, Span, Significance, Le, Be, Si
 use Rattle.rules.specs.Bits.{bitN}
 use Rattle.rules.specs.Positions.{start, spanBit}
 use Rattle.rules.specs.Fields.{exponent, loadOf, readAs, signedOf, bitsOf, storeOf, isInteger}
-use Rattle.rules.specs.Refusals.{verdict, _when_, spanCases, fieldCases, valueCases, fittingCases, loadCases, storeCases, strictCases}
-use Rattle.rules.specs.Calls.{Answer, done, a-number, said, Call, load, store, strictStore, spanCovers, cases, answer!, after!, answer, after, writes! }
+use Rattle.rules.specs.Refusals.{verdict, _when_, spanCases, fieldCases, valueCases, fittingCases, loadCases, storeCases, storeStrictCases}
+use Rattle.rules.specs.Calls.{Answer, done, a-number, said, Call, load, store, storeStrict, spanCovers, cases, answer!, after!, answer, after, writes! }
 use Rattle.rules.proofs.Row.{Words}
 use Rattle.rules.proofs.Field.{load-lt, load-bit, store-load, store-low}
 use Rattle.rules.proofs.Signed.{signed-range, signed-low}
@@ -66,8 +66,8 @@ module _ (W : ℕ) (wide : 0 < W) (ws : List ℕ) (s : Span) (K : ℕ) (e : Sign
       let k = fine-parts (fieldCases K (s .len)) (NotAnInteger when not (isInteger K g v) ∷ []) (f .1) in
       goes (spanCases W n s) (fieldCases K (s .len)) (f .0) ∙ k .0
 
-  store-of-strict : (g : Sign) (v : ℤ) (n : ℕ) → verdict (strictCases W n s K g v) ≡ Fine → verdict (storeCases W n s K g v) ≡ Fine
-  unfolding strictCases fittingCases storeCases
+  store-of-strict : (g : Sign) (v : ℤ) (n : ℕ) → verdict (storeStrictCases W n s K g v) ≡ Fine → verdict (storeCases W n s K g v) ≡ Fine
+  unfolding storeStrictCases fittingCases storeCases
   store-of-strict g v n h =
       let f = fine-parts (spanCases W n s) (fittingCases K (s .len) g v) h in
       let k = fine-parts (valueCases K (s .len) g v) _ (f .1) in
@@ -95,13 +95,13 @@ module _ (W : ℕ) (wide : 0 < W) (ws : List ℕ) (s : Span) (K : ℕ) (e : Sign
       ∙ ap a-number (stored-loaded W wide (s .order) e f K v ws (start W s) (s .len) (bounds (length ws) (i .lies)))
 
   -- A strict store that is accepted loads back exactly.
-  pub strictly-back : (g : Sign) (v : ℤ) → answer W (strictStore s K e g v) ws ≡ done → answer W (load s K e g) (after W (strictStore s K e g v) ws) ≡ a-number v
+  pub strictly-back : (g : Sign) (v : ℤ) → answer W (storeStrict s K e g v) ws ≡ done → answer W (load s K e g) (after W (storeStrict s K e g v) ws) ≡ a-number v
   unfolding cases after!
   strictly-back g v h =
-      let fine : verdict (strictCases W (length ws) s K g v) ≡ Fine = fine-of-done W (strictStore s K e g v) ws h in
+      let fine : verdict (storeStrictCases W (length ws) s K g v) ≡ Fine = fine-of-done W (storeStrict s K e g v) ws h in
       let i = fine-strict W (length ws) s K g v fine in
       let z = i .fitted .valued .sized in
-      loaded (strictStore s K e g v) g (storeOf W (s .order) e ws (start W s) (s .len) (bitsOf K v)) (load-of-store g v (length ws) (store-of-strict g v (length ws) fine)) (accepted-call W (strictStore s K e g v) ws fine .1)
+      loaded (storeStrict s K e g v) g (storeOf W (s .order) e ws (start W s) (s .len) (bitsOf K v)) (load-of-store g v (length ws) (store-of-strict g v (length ws) fine)) (accepted-call W (storeStrict s K e g v) ws fine .1)
       ∙ ap a-number (strictly-stored W wide (s .order) e g K v ws (start W s) (s .len) (bounds (length ws) (i .lies)) (z .some) (z .fitting) (i .fitted .small))
 
   -- Storing a loaded field is accepted and changes nothing.
@@ -127,9 +127,9 @@ module _ (W : ℕ) (wide : 0 < W) (ws : List ℕ) (s : Span) (K : ℕ) (e : Sign
 
   -- A store changes no bit outside its span, also in the words that it shares: the real position p of word k.
   pub store-beside : (g : Sign) (v : ℤ) (k p : ℕ) → p < W → spanCovers W s (k * W + p) ≡ false
-      → (bitN (getD (after W (store s K e g v) ws) k 0) p ≡ bitN (getD ws k 0) p) × (bitN (getD (after W (strictStore s K e g v) ws) k 0) p ≡ bitN (getD ws k 0) p)
+      → (bitN (getD (after W (store s K e g v) ws) k 0) p ≡ bitN (getD ws k 0) p) × (bitN (getD (after W (storeStrict s K e g v) ws) k 0) p ≡ bitN (getD ws k 0) p)
   unfolding writes!
-  store-beside g v k p h out = (beside W wide (store s K e g v) ws k p h out, beside W wide (strictStore s K e g v) ws k p h out)
+  store-beside g v k p h out = (beside W wide (store s K e g v) ws k p h out, beside W wide (storeStrict s K e g v) ws k p h out)
 
   -- Bit i weighs 2 to its exponent: the number loaded has it there.
   pub weighs : (u i : ℕ) → answer W (load s K e Unsigned) ws ≡ a-number (pos u) → i < s .len → bitN u (exponent W (s .order) e (start W s) (s .len) i) ≡ spanBit W ws s i

@@ -13,9 +13,9 @@ use Rattle.rules.specs.Types.{Order, Span, Verdict, Fine, Refused, Lsb0,
 use Rattle.rules.specs.Bits.{bitN, bitAt}
 use Rattle.rules.specs.Positions.{mirror, row, start, spanBit, within, over, spliced, covers, position}
 use Rattle.rules.specs.Fields.{loadOf, readAs, storeOf}
-use Rattle.rules.specs.Rows.{copied, moved, copiedInside, applied, rightBit, combined, sameBits, sameSpans}
+use Rattle.rules.specs.Rows.{copied, moved, copiedWithin, applied, rightBit, combined, sameBits, sameSpans}
 use Rattle.rules.specs.Refusals.{verdict}
-use Rattle.rules.specs.Calls.{says-yes, says-no, a-bit, a-number, said, unless, Side, here, there, Call, readBit, writeBit, load, store, strictStore, copyBetween, copyInside, combine, equal, findFirst, findLast, wordsOf, firstFound, lastFound, spanCovers, sideReads, cases, answer!, after!, reads!, writes!, answer, after, reads, writes}
+use Rattle.rules.specs.Calls.{says-yes, says-no, a-bit, a-number, said, unless, Side, here, there, Call, readBit, writeBit, load, store, storeStrict, copyFrom, copyWithin, boolean, equal, findFirst, findLast, wordsOf, firstFound, lastFound, spanCovers, sideReads, cases, answer!, after!, reads!, writes!, answer, after, reads, writes}
 use Rattle.rules.proofs.Parties.{Rules}
 use Rattle.rules.proofs.Weigh.{weigh-ext}
 use Rattle.rules.proofs.Row.{Words, bitAt-at, bit-row, bitAt-past, row-bit, mirror-lt}
@@ -26,9 +26,9 @@ use Rattle.rules.specs.Samples.{at-head}
 
 -- copy inside of two bits from 0 to 4 reads position 1 and not 5, and writes 5 and not 1; a boolean call reads and writes the left span
 footprints :
-    reads! 8 (copyInside (at-head Lsb0 0 8) 0 2 4) 1 ∷ reads! 8 (copyInside (at-head Lsb0 0 8) 0 2 4) 5 ∷ writes! 8 (copyInside (at-head Lsb0 0 8) 0 2 4) 1
-    ∷ writes! 8 (copyInside (at-head Lsb0 0 8) 0 2 4) 5 ∷ reads! 8 (combine 6 (at-head Msb0 0 4) (0 ∷ []) (at-head Msb0 0 4)) 7
-    ∷ writes! 8 (combine 6 (at-head Msb0 0 4) (0 ∷ []) (at-head Msb0 0 4)) 7 ∷ writes! 8 (combine 6 (at-head Msb0 0 4) (0 ∷ []) (at-head Msb0 0 4)) 3 ∷ []
+    reads! 8 (copyWithin (at-head Lsb0 0 8) 0 2 4) 1 ∷ reads! 8 (copyWithin (at-head Lsb0 0 8) 0 2 4) 5 ∷ writes! 8 (copyWithin (at-head Lsb0 0 8) 0 2 4) 1
+    ∷ writes! 8 (copyWithin (at-head Lsb0 0 8) 0 2 4) 5 ∷ reads! 8 (boolean 6 (at-head Msb0 0 4) (0 ∷ []) (at-head Msb0 0 4)) 7
+    ∷ writes! 8 (boolean 6 (at-head Msb0 0 4) (0 ∷ []) (at-head Msb0 0 4)) 7 ∷ writes! 8 (boolean 6 (at-head Msb0 0 4) (0 ∷ []) (at-head Msb0 0 4)) 3 ∷ []
     ≡ true ∷ false ∷ false ∷ true ∷ true ∷ true ∷ false ∷ []
 unfolding reads! writes! covers within mirror position start
 footprints = refl
@@ -90,43 +90,43 @@ module _ (W : ℕ) (pos : 0 < W) where
   -- ---- frame
 
   frame! : (c : Call) (ws : List ℕ) (q : ℕ) → writes! W c q ≡ false → bitAt W (after! W c ws) q ≡ bitAt W ws q
-  unfolding writes! after! storeOf copied copiedInside moved combined
+  unfolding writes! after! storeOf copied copiedWithin moved combined
   frame! (readBit s i) ws q e = refl
   frame! (writeBit s i b) ws q e = spliced-outside (s .order) ws (start W s + i) 1 _ q e
   frame! (load s K d g) ws q e = refl
   frame! (store s K d g v) ws q e = spliced-outside (s .order) ws (start W s) (s .len) _ q e
-  frame! (strictStore s K d g v) ws q e = spliced-outside (s .order) ws (start W s) (s .len) _ q e
-  frame! (copyBetween s vs t) ws q e = spliced-outside (s .order) ws (start W s) (s .len) _ q e
-  frame! (copyInside s from count to) ws q e = spliced-outside (s .order) ws (start W s + to) count _ q e
-  frame! (combine op s vs t) ws q e = spliced-outside (s .order) ws (start W s) (s .len) _ q e
+  frame! (storeStrict s K d g v) ws q e = spliced-outside (s .order) ws (start W s) (s .len) _ q e
+  frame! (copyFrom s vs t) ws q e = spliced-outside (s .order) ws (start W s) (s .len) _ q e
+  frame! (copyWithin s from count to) ws q e = spliced-outside (s .order) ws (start W s + to) count _ q e
+  frame! (boolean op s vs t) ws q e = spliced-outside (s .order) ws (start W s) (s .len) _ q e
   frame! (equal a s b t) ws q e = refl
   frame! (findFirst v s) ws q e = refl
   frame! (findLast v s) ws q e = refl
 
   length! : (c : Call) (ws : List ℕ) → length (after! W c ws) ≡ length ws
-  unfolding after! storeOf copied copiedInside moved combined
+  unfolding after! storeOf copied copiedWithin moved combined
   length! (readBit s i) ws = refl
   length! (writeBit s i b) ws = length-spliced W (s .order) ws (start W s + i) 1 _
   length! (load s K d g) ws = refl
   length! (store s K d g v) ws = length-spliced W (s .order) ws (start W s) (s .len) _
-  length! (strictStore s K d g v) ws = length-spliced W (s .order) ws (start W s) (s .len) _
-  length! (copyBetween s vs t) ws = length-spliced W (s .order) ws (start W s) (s .len) _
-  length! (copyInside s from count to) ws = length-spliced W (s .order) ws (start W s + to) count _
-  length! (combine op s vs t) ws = length-spliced W (s .order) ws (start W s) (s .len) _
+  length! (storeStrict s K d g v) ws = length-spliced W (s .order) ws (start W s) (s .len) _
+  length! (copyFrom s vs t) ws = length-spliced W (s .order) ws (start W s) (s .len) _
+  length! (copyWithin s from count to) ws = length-spliced W (s .order) ws (start W s + to) count _
+  length! (boolean op s vs t) ws = length-spliced W (s .order) ws (start W s) (s .len) _
   length! (equal a s b t) ws = refl
   length! (findFirst v s) ws = refl
   length! (findLast v s) ws = refl
 
   words! : (c : Call) (ws : List ℕ) → Words W ws → Words W (after! W c ws)
-  unfolding after! storeOf copied copiedInside moved combined
+  unfolding after! storeOf copied copiedWithin moved combined
   words! (readBit s i) ws h = h
   words! (writeBit s i b) ws h = words-spliced W (s .order) ws (start W s + i) 1 _
   words! (load s K d g) ws h = h
   words! (store s K d g v) ws h = words-spliced W (s .order) ws (start W s) (s .len) _
-  words! (strictStore s K d g v) ws h = words-spliced W (s .order) ws (start W s) (s .len) _
-  words! (copyBetween s vs t) ws h = words-spliced W (s .order) ws (start W s) (s .len) _
-  words! (copyInside s from count to) ws h = words-spliced W (s .order) ws (start W s + to) count _
-  words! (combine op s vs t) ws h = words-spliced W (s .order) ws (start W s) (s .len) _
+  words! (storeStrict s K d g v) ws h = words-spliced W (s .order) ws (start W s) (s .len) _
+  words! (copyFrom s vs t) ws h = words-spliced W (s .order) ws (start W s) (s .len) _
+  words! (copyWithin s from count to) ws h = words-spliced W (s .order) ws (start W s + to) count _
+  words! (boolean op s vs t) ws h = words-spliced W (s .order) ws (start W s) (s .len) _
   words! (equal a s b t) ws h = h
   words! (findFirst v s) ws h = h
   words! (findLast v s) ws h = h
@@ -135,16 +135,16 @@ module _ (W : ℕ) (pos : 0 < W) where
 
   local-bit! : (c : Call) (ws vs : List ℕ) → length ws ≡ length vs → ((q : ℕ) → reads! W c q ≡ true → bitAt W ws q ≡ bitAt W vs q)
       → (q : ℕ) → writes! W c q ≡ true → bitAt W (after! W c ws) q ≡ bitAt W (after! W c vs) q
-  unfolding reads! writes! after! storeOf copied copiedInside moved combined
+  unfolding reads! writes! after! storeOf copied copiedWithin moved combined
   local-bit! (readBit s i) ws vs l a q e = absurd (true≢false (sym e))
   local-bit! (writeBit s i b) ws vs l a q e = spliced-agrees (s .order) ws vs (start W s + i) 1 _ _ q l (λ i h. refl) e
   local-bit! (load s K d g) ws vs l a q e = absurd (true≢false (sym e))
   local-bit! (store s K d g v) ws vs l a q e = spliced-agrees (s .order) ws vs (start W s) (s .len) _ _ q l (λ i h. refl) e
-  local-bit! (strictStore s K d g v) ws vs l a q e = spliced-agrees (s .order) ws vs (start W s) (s .len) _ _ q l (λ i h. refl) e
-  local-bit! (copyBetween s us t) ws vs l a q e = spliced-agrees (s .order) ws vs (start W s) (s .len) _ _ q l (λ i h. refl) e
-  local-bit! (copyInside s from count to) ws vs l a q e =
+  local-bit! (storeStrict s K d g v) ws vs l a q e = spliced-agrees (s .order) ws vs (start W s) (s .len) _ _ q l (λ i h. refl) e
+  local-bit! (copyFrom s us t) ws vs l a q e = spliced-agrees (s .order) ws vs (start W s) (s .len) _ _ q l (λ i h. refl) e
+  local-bit! (copyWithin s from count to) ws vs l a q e =
       spliced-agrees (s .order) ws vs (start W s + to) count _ _ q l (row-same (s .order) ws vs (start W s + from) count a) e
-  local-bit! (combine op s us t) ws vs l a q e =
+  local-bit! (boolean op s us t) ws vs l a q e =
       spliced-agrees (s .order) ws vs (start W s) (s .len) _ _ q l (λ i h. ap (λ (x : ℕ). applied op x (rightBit W us t i)) (span-same ws vs s a i h)) e
   local-bit! (equal c s b t) ws vs l a q e = absurd (true≢false (sym e))
   local-bit! (findFirst v s) ws vs l a q e = absurd (true≢false (sym e))
@@ -183,10 +183,10 @@ module _ (W : ℕ) (pos : 0 < W) where
   local-answer! (load s K d g) ws vs a =
       ap (λ (x : ℕ). a-number (readAs g (s .len) x)) (weigh-ext (s .len) _ _ _ (row-same (s .order) ws vs (start W s) (s .len) a))
   local-answer! (store s K d g v) ws vs a = refl
-  local-answer! (strictStore s K d g v) ws vs a = refl
-  local-answer! (copyBetween s us t) ws vs a = refl
-  local-answer! (copyInside s from count to) ws vs a = refl
-  local-answer! (combine op s us t) ws vs a = refl
+  local-answer! (storeStrict s K d g v) ws vs a = refl
+  local-answer! (copyFrom s us t) ws vs a = refl
+  local-answer! (copyWithin s from count to) ws vs a = refl
+  local-answer! (boolean op s us t) ws vs a = refl
   local-answer! (equal c s b t) ws vs a =
       ap (λ (x : Bool). cond x says-yes says-no)
       (same-yes (s .len) (t .len) _ _ _ _

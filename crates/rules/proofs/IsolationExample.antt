@@ -10,9 +10,9 @@ use Rattle.rules.specs.Types.{Lsb0, Msb0, Span, Refusal, IndexTooLarge, 
 use Rattle.rules.specs.Bits.{bitN, ofBits, tabulate, bitAt, fromBits}
 use Rattle.rules.specs.Positions.{position, mirror, row, fromRow, start, spanBit, inBounds, within, over, spliced, covers}
 use Rattle.rules.specs.Fields.{exponent, weigh, loadOf, readAs, bitsOf, storeOf, isSize, isInteger, fits}
-use Rattle.rules.specs.Rows.{moved, copiedInside, applied, rightBit, combined, sameBits, sameSpans, firstWith}
-use Rattle.rules.specs.Refusals.{verdict, spanCases, fieldCases, valueCases, fittingCases, bitCases, loadCases, storeCases, strictCases, pairCases, insideCases}
-use Rattle.rules.specs.Calls.{refused, done, a-number, says-yes, found-at, here, readBit, load, store, strictStore, copyInside, combine, equal, findFirst, spanCovers, cases, answer!, after!, reads!, writes!, answer, after}
+use Rattle.rules.specs.Rows.{moved, copiedWithin, applied, rightBit, combined, sameBits, sameSpans, firstWith}
+use Rattle.rules.specs.Refusals.{verdict, spanCases, fieldCases, valueCases, fittingCases, bitCases, loadCases, storeCases, storeStrictCases, pairCases, withinCases}
+use Rattle.rules.specs.Calls.{refused, done, a-number, says-yes, found-at, here, readBit, load, store, storeStrict, copyWithin, boolean, equal, findFirst, spanCovers, cases, answer!, after!, reads!, writes!, answer, after}
 use Rattle.rules.specs.Mixtures.{Party, one, two, Of, of, All, mixed-answers, mixed-final, Asked, call, told, left, Separate, Within, Isolated}
 use Rattle.rules.specs.Samples.{at-head}
 use Rattle.rules.proofs.Spans.{within-low, within-high, covers-part}
@@ -40,19 +40,19 @@ apart q a b =
 -- a mixture in which two calls are refused, one by 9 and one by 2
 abbrev pub mixture : List (Of Asked)
 mixture =
-    of one (call (store low 8 Le Unsigned (pos 9))) ∷ of two (call (findFirst 0 high)) ∷ of two (call (copyInside high 0 2 1)) ∷ of one (call (strictStore low 8 Le Unsigned (pos 16)))
+    of one (call (store low 8 Le Unsigned (pos 9))) ∷ of two (call (findFirst 0 high)) ∷ of two (call (copyWithin high 0 2 1)) ∷ of one (call (storeStrict low 8 Le Unsigned (pos 16)))
     ∷ of two (call (load high 8 Be Unsigned)) ∷ of one (call (load low 8 Le Unsigned)) ∷ of two (call (readBit (at-head Msb0 8 1) 0)) ∷ of two (call (equal here high here high))
-    ∷ of one (call (combine 6 low (0xF ∷ []) low)) ∷ []
+    ∷ of one (call (boolean 6 low (0xF ∷ []) low)) ∷ []
 
 pub mixture-answers :
     mixed-answers (told 8) (left 8) mixture (0xB4 ∷ [])
     ≡ of one done ∷ of two (found-at 1) ∷ of two done ∷ of one (refused 9) ∷ of two (a-number (pos 13)) ∷ of one (a-number (pos 9)) ∷ of two (refused 2)
     ∷ of two says-yes ∷ of one done ∷ []
-unfolding mixed-answers bitN ofBits tabulate bitAt fromBits position mirror row fromRow start spanBit inBounds within over spliced exponent weigh loadOf readAs bitsOf storeOf isSize isInteger fits moved copiedInside applied rightBit combined sameBits sameSpans firstWith verdict spanCases fieldCases valueCases fittingCases bitCases loadCases storeCases strictCases pairCases insideCases cases answer! after! answer after
+unfolding mixed-answers bitN ofBits tabulate bitAt fromBits position mirror row fromRow start spanBit inBounds within over spliced exponent weigh loadOf readAs bitsOf storeOf isSize isInteger fits moved copiedWithin applied rightBit combined sameBits sameSpans firstWith verdict spanCases fieldCases valueCases fittingCases bitCases loadCases storeCases storeStrictCases pairCases withinCases cases answer! after! answer after
 mixture-answers = refl
 
 pub mixture-final : mixed-final (told 8) (left 8) mixture (0xB4 ∷ []) ≡ 0xD6 ∷ []
-unfolding mixed-final bitN ofBits tabulate bitAt fromBits position mirror row fromRow start spanBit inBounds within over spliced exponent weigh loadOf readAs bitsOf storeOf isSize isInteger fits moved copiedInside applied rightBit combined sameBits sameSpans firstWith verdict spanCases fieldCases valueCases fittingCases bitCases loadCases storeCases strictCases pairCases insideCases cases answer! after! answer after
+unfolding mixed-final bitN ofBits tabulate bitAt fromBits position mirror row fromRow start spanBit inBounds within over spliced exponent weigh loadOf readAs bitsOf storeOf isSize isInteger fits moved copiedWithin applied rightBit combined sameBits sameSpans firstWith verdict spanCases fieldCases valueCases fittingCases bitCases loadCases storeCases storeStrictCases pairCases withinCases cases answer! after! answer after
 mixture-final = refl
 
 -- either of two tests true, each of which gives the same
@@ -68,7 +68,7 @@ gone : (r : Refusal) {A : Type 0} → Refused r ≡ Fine → A
 gone r e = let z : _≡_ {A = ℕ} 0 1 = cc in absurd (omega arith)
 
 pub mixture-kept : All (Within 8 1 Shares) mixture
-unfolding reads! writes! cases verdict spanCases fieldCases valueCases fittingCases bitCases loadCases storeCases strictCases pairCases insideCases inBounds isSize isInteger fits
+unfolding reads! writes! cases verdict spanCases fieldCases valueCases fittingCases bitCases loadCases storeCases storeStrictCases pairCases withinCases inBounds isSize isInteger fits
 mixture-kept = (
   (λ _ q e. e),
   (

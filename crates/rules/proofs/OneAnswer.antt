@@ -8,7 +8,7 @@ use lib.IntN.{ℤ, pos, negsuc}
 use Rattle.rules.specs.Types.{Refusal, TooManyWords, IndexTooLarge, OutOfBounds, NoSuchK, FieldLength, OrdersDiffer, LengthsDiffer, NotAnInteger, DoesNotFit, NotBelow, Verdict, Fine, Refused, Span, Number, Up, Down, PositionAnswer, Position·Is, Position·Refused, SelectorAnswer, Selector·Is, Selector·Refused, MaskAnswer, Mask·Is, Mask·Refused, SplitAnswer, Parts, Split·Refused, SpanAnswer, Span·Is, Span·Refused, BitAnswer, Bit·Is, Bit·Refused, NumberAnswer, Number·Is, Number·Refused, LowBitsAnswer, LowBits·Is, LowBits·Refused, MachineAnswer, Machine·Is, Machine·Refused, WriteAnswer, Done, Write·Refused, EqualAnswer, Yes, No, Equal·Refused, SearchAnswer, At, Absent, Search·Refused}
 use Rattle.rules.specs.Fields.{whole}
 use Rattle.rules.specs.Refusals.{Case, number, verdict}
-use Rattle.rules.specs.Calls.{digit}
+use Rattle.rules.specs.Calls.{Answer, Call, digit}
 use Rattle.rules.specs.Answers.{verdictSays, Judges, positionSays, selectorSays, maskSays, splitSays, spanSays, bitSays, numberSays, lowBitsSays, machineSays, writeSays, equalSays, searchSays, Gives}
 
 -- a function with a way back takes no two things to one
@@ -154,5 +154,5 @@ one-search (Search·Refused a) Absent e = cc
 one-search (Search·Refused a) (Search·Refused b) e = ap Search·Refused (one-number a b (cc))
 
 -- a promise has one answer and one memory
-pub only : {A : Type 0} {answer : A} {memory : List ℕ} {r r′ : A} {m m′ : List ℕ} → Gives answer memory r m → Gives answer memory r′ m′ → (r ≡ r′) × (m ≡ m′)
+pub only : {W : ℕ} {c : Call} {ws : List ℕ} {r r′ : Answer} {m m′ : List ℕ} → Gives W c ws r m → Gives W c ws r′ m′ → (r ≡ r′) × (m ≡ m′)
 only g h = (g .answers ∙ sym (h .answers), g .holds ∙ sym (h .holds))

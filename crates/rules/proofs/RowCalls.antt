@@ -9,10 +9,10 @@ use lib.ListN.{length}
 use borrow.Author.Tests.{eq-eqb, ne-eqb}
 use Rattle.rules.specs.Types.{Order, Span, Refusal, Fine, Refused, Done, Write·Refused}
 use Rattle.rules.specs.Positions.{row, start, spanBit, spliced}
-use Rattle.rules.specs.Rows.{copied, moved, copiedInside, applied, rightBit, combined, sameBits, sameSpans}
-use Rattle.rules.specs.Refusals.{number, verdict, pairCases, copyCases, insideCases}
-use Rattle.rules.specs.Calls.{Answer, refused, done, says-yes, says-no, Call, here, there, copyBetween, copyInside, combine, equal, cases, answer!, after!, answer, after, swapVerdict, swapAnswer, swapLeft, swapRight}
-use Rattle.rules.specs.Answers.{writeSays, Gives}
+use Rattle.rules.specs.Rows.{copied, moved, copiedWithin, applied, rightBit, combined, sameBits, sameSpans}
+use Rattle.rules.specs.Refusals.{number, verdict, pairCases, copyCases, withinCases}
+use Rattle.rules.specs.Calls.{Answer, refused, done, says-yes, says-no, Call, here, there, copyFrom, copyWithin, boolean, equal, cases, answer!, after!, answer, after, swapVerdict, swapAnswer, swapLeft, swapRight}
+use Rattle.rules.specs.Answers.{writeSays, Gives, Swaps}
 use Rattle.rules.proofs.Accepted.{fine-pair, fine-copy}
 use Rattle.rules.proofs.Splice.{splice-eq}
 use Rattle.rules.proofs.Sentences.{refused-call, accepted-call, refused-swap, accepted-swap, right-here, right-past}
@@ -20,13 +20,13 @@ use Rattle.rules.proofs.Sentences.{refused-call, accepted-call, refused
 -- ---- any writing call
 
 pub call-refused : (W : ℕ) (c : Call) (ws : List ℕ) (r : Refusal) {m : List ℕ} → verdict (cases W (length ws) c) ≡ Refused r → m ≡ ws
-    → Gives (answer W c ws) (after W c ws) (writeSays (Write·Refused r)) m
+    → Gives W c ws (writeSays (Write·Refused r)) m
 call-refused W c ws r e em =
     let k = refused-call W c ws r e in
     record { answers = sym (k .0); holds = em ∙ sym (k .1) }
 
 pub call-done : (W : ℕ) (c : Call) (ws : List ℕ) {m : List ℕ} → answer! W c ws ≡ done → verdict (cases W (length ws) c) ≡ Fine → m ≡ after! W c ws
-    → Gives (answer W c ws) (after W c ws) (writeSays Done) m
+    → Gives W c ws (writeSays Done) m
 call-done W c ws d e em =
     let k = accepted-call W c ws e in
     record { answers = sym (k .0 ∙ d); holds = em ∙ sym (k .1) }
@@ -35,9 +35,9 @@ call-done W c ws d e em =
 
 module _ (W : ℕ) (ws : List ℕ) (s : Span) (vs : List ℕ) (t : Span) where
   pub copy-refused : (r : Refusal) {m : List ℕ} → verdict (copyCases W (length ws) s (length vs) t) ≡ Refused r → m ≡ ws
-      → Gives (answer W (copyBetween s vs t) ws) (after W (copyBetween s vs t) ws) (writeSays (Write·Refused r)) m
+      → Gives W (copyFrom s vs t) ws (writeSays (Write·Refused r)) m
   unfolding cases
-  copy-refused r e em = call-refused W (copyBetween s vs t) ws r e em
+  copy-refused r e em = call-refused W (copyFrom s vs t) ws r e em
 
   -- what a copy of s's length leaves, in s's order
   pub copied-is : verdict (copyCases W (length ws) s (length vs) t) ≡ Fine
@@ -49,40 +49,40 @@ module _ (W : ℕ) (ws : List ℕ) (s : Span) (vs : List ℕ) (t : Span) where
 
   pub copy-done : {m : List ℕ} → verdict (copyCases W (length ws) s (length vs) t) ≡ Fine
       → m ≡ spliced W (s .order) ws (s .word * W + s .head .0) (s .len) (λ i. row W (s .order) vs (t .word * W + t .head .0 + i))
-      → Gives (answer W (copyBetween s vs t) ws) (after W (copyBetween s vs t) ws) (writeSays Done) m
+      → Gives W (copyFrom s vs t) ws (writeSays Done) m
   unfolding cases answer! after!
-  copy-done e em = call-done W (copyBetween s vs t) ws refl e (em ∙ copied-is e)
+  copy-done e em = call-done W (copyFrom s vs t) ws refl e (em ∙ copied-is e)
 
 -- ---- copy inside
 
 module _ (W : ℕ) (ws : List ℕ) (s : Span) (from count to : ℕ) where
-  pub inside-refused : (r : Refusal) {m : List ℕ} → verdict (insideCases W (length ws) s from count to) ≡ Refused r → m ≡ ws
-      → Gives (answer W (copyInside s from count to) ws) (after W (copyInside s from count to) ws) (writeSays (Write·Refused r)) m
+  pub inside-refused : (r : Refusal) {m : List ℕ} → verdict (withinCases W (length ws) s from count to) ≡ Refused r → m ≡ ws
+      → Gives W (copyWithin s from count to) ws (writeSays (Write·Refused r)) m
   unfolding cases
-  inside-refused r e em = call-refused W (copyInside s from count to) ws r e em
+  inside-refused r e em = call-refused W (copyWithin s from count to) ws r e em
 
-  pub inside-done : {m : List ℕ} → verdict (insideCases W (length ws) s from count to) ≡ Fine
+  pub inside-done : {m : List ℕ} → verdict (withinCases W (length ws) s from count to) ≡ Fine
       → m ≡ moved W (s .order) ws (s .word * W + s .head .0 + from) (s .word * W + s .head .0 + to) count
-      → Gives (answer W (copyInside s from count to) ws) (after W (copyInside s from count to) ws) (writeSays Done) m
-  unfolding cases answer! after! copiedInside start
-  inside-done e em = call-done W (copyInside s from count to) ws refl e em
+      → Gives W (copyWithin s from count to) ws (writeSays Done) m
+  unfolding cases answer! after! copiedWithin start
+  inside-done e em = call-done W (copyWithin s from count to) ws refl e em
 
 -- ---- boolean
 
 module _ (W : ℕ) (pos : 0 < W) (op : ℕ) (ws : List ℕ) (s : Span) (vs : List ℕ) (t : Span) where
-  pub combine-refused : (r : Refusal) {m : List ℕ} → verdict (pairCases W (length ws) s (length vs) t) ≡ Refused r → m ≡ ws
-      → Gives (answer W (combine op s vs t) ws) (after W (combine op s vs t) ws) (writeSays (Write·Refused r)) m
+  pub boolean-refused : (r : Refusal) {m : List ℕ} → verdict (pairCases W (length ws) s (length vs) t) ≡ Refused r → m ≡ ws
+      → Gives W (boolean op s vs t) ws (writeSays (Write·Refused r)) m
   unfolding cases
-  combine-refused r e em = call-refused W (combine op s vs t) ws r e em
+  boolean-refused r e em = call-refused W (boolean op s vs t) ws r e em
 
   -- R i is the right bit i, and 0 past the right's end
-  pub combine-done : (R : ℕ → ℕ) {m : List ℕ} → verdict (pairCases W (length ws) s (length vs) t) ≡ Fine
+  pub boolean-done : (R : ℕ → ℕ) {m : List ℕ} → verdict (pairCases W (length ws) s (length vs) t) ≡ Fine
       → m ≡ spliced W (s .order) ws (s .word * W + s .head .0) (s .len) (λ i. applied op (row W (s .order) ws (s .word * W + s .head .0 + i)) (R i))
       → ((i : ℕ) → i < t .len → R i ≡ row W (s .order) vs (t .word * W + t .head .0 + i)) → ((i : ℕ) → t .len ≤ i → R i ≡ 0)
-      → Gives (answer W (combine op s vs t) ws) (after W (combine op s vs t) ws) (writeSays Done) m
+      → Gives W (boolean op s vs t) ws (writeSays Done) m
   unfolding cases answer! after! combined spanBit start
-  combine-done R e em inside past =
-      call-done W (combine op s vs t) ws refl e
+  boolean-done R e em inside past =
+      call-done W (boolean op s vs t) ws refl e
       (em ∙ splice-eq W pos (s .order) ws (s .word * W + s .head .0) (s .len) (λ i. applied op (row W (s .order) ws (s .word * W + s .head .0 + i)) (R i))
       (λ i. applied op (row W (s .order) ws (s .word * W + s .head .0 + i)) (rightBit W vs t i))
       (λ i l. ap (applied op (row W (s .order) ws (s .word * W + s .head .0 + i))) (go i (decLt i (t .len)))))
@@ -104,16 +104,22 @@ same-pair W ws s vs t e =
 
 module _ (W : ℕ) (ws : List ℕ) (s : Span) (vs : List ℕ) (t : Span) where
   pub swap-refused : (r : Refusal) → verdict (copyCases W (length ws) s (length vs) t) ≡ Refused r
-      → (refused (number r) ≡ swapAnswer W ws s vs t) × (ws ≡ swapLeft W ws s vs t) × (vs ≡ swapRight W ws s vs t)
+      → Swaps W ws s vs t (writeSays (Write·Refused r)) ws vs
   unfolding swapVerdict
-  swap-refused r e = let k = refused-swap W ws s vs t r e in (sym (k .0), sym (k .1), sym (k .2))
+  swap-refused r e = let k = refused-swap W ws s vs t r e in record { answers = sym (k .0); holds-left = sym (k .1); holds-right = sym (k .2) }
 
   pub swap-done : {left right : List ℕ} → verdict (copyCases W (length ws) s (length vs) t) ≡ Fine
       → left ≡ spliced W (s .order) ws (s .word * W + s .head .0) (s .len) (λ i. row W (s .order) vs (t .word * W + t .head .0 + i))
       → right ≡ spliced W (s .order) vs (t .word * W + t .head .0) (s .len) (λ i. row W (s .order) ws (s .word * W + s .head .0 + i))
-      → (done ≡ swapAnswer W ws s vs t) × (left ≡ swapLeft W ws s vs t) × (right ≡ swapRight W ws s vs t)
+      → Swaps W ws s vs t (writeSays Done) left right
   unfolding swapVerdict
-  swap-done e el er = let k = accepted-swap W ws s vs t e in (sym (k .0), el ∙ copied-is W ws s vs t e ∙ sym (k .1), er ∙ same-pair W ws s vs t e ∙ sym (k .2))
+  swap-done e el er =
+      let k = accepted-swap W ws s vs t e in
+      record {
+        answers = sym (k .0);
+        holds-left = el ∙ copied-is W ws s vs t e ∙ sym (k .1);
+        holds-right = er ∙ same-pair W ws s vs t e ∙ sym (k .2);
+      }
 
 -- ---- equal
 

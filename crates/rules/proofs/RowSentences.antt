@@ -11,12 +11,12 @@ use Rattle.rules.specs.Bits.{bitN, bitAt}
 use Rattle.rules.specs.Positions.{start, spanBit, covers}
 use Rattle.rules.specs.Rows.{copied, applied, rightBit, combined, sameSpans}
 use Rattle.rules.specs.Refusals.{verdict, pairCases}
-use Rattle.rules.specs.Calls.{done, says-yes, says-no, said, unless, Side, wordsOf, lentOf, copyBetween, copyInside, combine, equal, spanCovers, cases, answer!, after!, answer, after, writes!, swapVerdict, swapAnswer, swapLeft, swapRight}
+use Rattle.rules.specs.Calls.{done, says-yes, says-no, said, unless, Side, wordsOf, lentOf, copyFrom, copyWithin, boolean, equal, spanCovers, cases, answer!, after!, answer, after, writes!, swapVerdict, swapAnswer, swapLeft, swapRight}
 use Rattle.rules.proofs.Row.{bitAt-at}
 use Rattle.rules.proofs.Splice.{splice-eq}
 use Rattle.rules.proofs.Tables.{Inside}
 use Rattle.rules.proofs.Accepted.{Copy, fine-pair, fine-copy, fine-move}
-use Rattle.rules.proofs.Sentences.{done-fine, fine-of-done, accepted-call, accepted-swap, copy-bit, inside-bit, combine-bit, right-here, right-past, equal-yes, yes-equal}
+use Rattle.rules.proofs.Sentences.{done-fine, fine-of-done, accepted-call, accepted-swap, copy-bit, inside-bit, boolean-bit, right-here, right-past, equal-yes, yes-equal}
 use Rattle.rules.proofs.Footprints.{beside, spliced-outside}
 
 bounds : (W n : ℕ) (s : Span) → Inside W n s → start W s + s .len ≤ n * W
@@ -27,80 +27,80 @@ module _ (W : ℕ) (wide : 0 < W) (ws : List ℕ) where
   -- ---- copy between
 
   module _ (s : Span) (vs : List ℕ) (t : Span) where
-    copy-fine : answer W (copyBetween s vs t) ws ≡ done → Copy W (length ws) s (length vs) t
+    copy-fine : answer W (copyFrom s vs t) ws ≡ done → Copy W (length ws) s (length vs) t
     unfolding cases
-    copy-fine e = fine-copy W (length ws) s (length vs) t (fine-of-done W (copyBetween s vs t) ws e)
+    copy-fine e = fine-copy W (length ws) s (length vs) t (fine-of-done W (copyFrom s vs t) ws e)
 
     -- Lengths are equal.
-    pub copied-length : answer W (copyBetween s vs t) ws ≡ done → s .len ≡ t .len
+    pub copied-length : answer W (copyFrom s vs t) ws ≡ done → s .len ≡ t .len
     copied-length e = copy-fine e .one-length
 
     -- Bit i of the target becomes bit i of the source.
-    pub copied-bit : answer W (copyBetween s vs t) ws ≡ done → (i : ℕ) → i < s .len → spanBit W (after W (copyBetween s vs t) ws) s i ≡ spanBit W vs t i
+    pub copied-bit : answer W (copyFrom s vs t) ws ≡ done → (i : ℕ) → i < s .len → spanBit W (after W (copyFrom s vs t) ws) s i ≡ spanBit W vs t i
     unfolding after!
     copied-bit e i l =
-        ap (λ (xs : List ℕ). spanBit W xs s i) (accepted-call W (copyBetween s vs t) ws (fine-of-done W (copyBetween s vs t) ws e) .1)
+        ap (λ (xs : List ℕ). spanBit W xs s i) (accepted-call W (copyFrom s vs t) ws (fine-of-done W (copyFrom s vs t) ws e) .1)
         ∙ copy-bit W wide ws s (bounds W (length ws) s (copy-fine e .pair .left)) vs t i l
 
     -- No bit outside the target changes: the real position p of word k.
-    pub copied-beside : (k p : ℕ) → p < W → spanCovers W s (k * W + p) ≡ false → bitN (getD (after W (copyBetween s vs t) ws) k 0) p ≡ bitN (getD ws k 0) p
+    pub copied-beside : (k p : ℕ) → p < W → spanCovers W s (k * W + p) ≡ false → bitN (getD (after W (copyFrom s vs t) ws) k 0) p ≡ bitN (getD ws k 0) p
     unfolding writes!
-    copied-beside k p l out = beside W wide (copyBetween s vs t) ws k p l out
+    copied-beside k p l out = beside W wide (copyFrom s vs t) ws k p l out
 
   -- ---- copy inside
 
   module _ (s : Span) (from count to : ℕ) where
     -- Bit to + i becomes the old bit from + i, for all i at once: as if all were read before one is written.
-    pub moved-bit : answer W (copyInside s from count to) ws ≡ done → (i : ℕ) → i < count
-        → spanBit W (after W (copyInside s from count to) ws) s (to + i) ≡ spanBit W ws s (from + i)
+    pub moved-bit : answer W (copyWithin s from count to) ws ≡ done → (i : ℕ) → i < count
+        → spanBit W (after W (copyWithin s from count to) ws) s (to + i) ≡ spanBit W ws s (from + i)
     unfolding cases after!
     moved-bit e i l =
-        let fine = fine-of-done W (copyInside s from count to) ws e in
+        let fine = fine-of-done W (copyWithin s from count to) ws e in
         let m = fine-move W (length ws) s from count to fine in
-        ap (λ (xs : List ℕ). spanBit W xs s (to + i)) (accepted-call W (copyInside s from count to) ws fine .1)
+        ap (λ (xs : List ℕ). spanBit W xs s (to + i)) (accepted-call W (copyWithin s from count to) ws fine .1)
         ∙ inside-bit W wide ws s (bounds W (length ws) s (m .lies)) from count to i (m .target) l
 
     -- Other bits stay, those of the source too.
     pub moved-beside : (k p : ℕ) → p < W → covers W (s .order) (start W s + to) count (k * W + p) ≡ false
-        → bitN (getD (after W (copyInside s from count to) ws) k 0) p ≡ bitN (getD ws k 0) p
+        → bitN (getD (after W (copyWithin s from count to) ws) k 0) p ≡ bitN (getD ws k 0) p
     unfolding writes!
-    moved-beside k p l out = beside W wide (copyInside s from count to) ws k p l out
+    moved-beside k p l out = beside W wide (copyWithin s from count to) ws k p l out
 
   -- ---- boolean
 
   module _ (op : ℕ) (s : Span) where
     module _ (vs : List ℕ) (t : Span) where
       -- Into the left span: bit i is the operation on the old left bit and the right bit.
-      pub combined-bit : answer W (combine op s vs t) ws ≡ done → (i : ℕ) → i < s .len
-          → spanBit W (after W (combine op s vs t) ws) s i ≡ applied op (spanBit W ws s i) (rightBit W vs t i)
+      pub combined-bit : answer W (boolean op s vs t) ws ≡ done → (i : ℕ) → i < s .len
+          → spanBit W (after W (boolean op s vs t) ws) s i ≡ applied op (spanBit W ws s i) (rightBit W vs t i)
       unfolding cases after!
       combined-bit e i l =
-          let fine = fine-of-done W (combine op s vs t) ws e in
-          ap (λ (xs : List ℕ). spanBit W xs s i) (accepted-call W (combine op s vs t) ws fine .1)
-          ∙ combine-bit W wide ws s (bounds W (length ws) s (fine-pair W (length ws) s (length vs) t fine .left)) op vs t i l
+          let fine = fine-of-done W (boolean op s vs t) ws e in
+          ap (λ (xs : List ℕ). spanBit W xs s i) (accepted-call W (boolean op s vs t) ws fine .1)
+          ∙ boolean-bit W wide ws s (bounds W (length ws) s (fine-pair W (length ws) s (length vs) t fine .left)) op vs t i l
 
-      pub combined-here : answer W (combine op s vs t) ws ≡ done → (i : ℕ) → i < s .len → i < t .len
-          → spanBit W (after W (combine op s vs t) ws) s i ≡ applied op (spanBit W ws s i) (spanBit W vs t i)
+      pub combined-here : answer W (boolean op s vs t) ws ≡ done → (i : ℕ) → i < s .len → i < t .len
+          → spanBit W (after W (boolean op s vs t) ws) s i ≡ applied op (spanBit W ws s i) (spanBit W vs t i)
       combined-here e i l h = combined-bit e i l ∙ ap (applied op (spanBit W ws s i)) (right-here W vs t i h)
 
       -- Right bits past its end count as false.
-      pub combined-past : answer W (combine op s vs t) ws ≡ done → (i : ℕ) → i < s .len → t .len ≤ i
-          → spanBit W (after W (combine op s vs t) ws) s i ≡ applied op (spanBit W ws s i) 0
+      pub combined-past : answer W (boolean op s vs t) ws ≡ done → (i : ℕ) → i < s .len → t .len ≤ i
+          → spanBit W (after W (boolean op s vs t) ws) s i ≡ applied op (spanBit W ws s i) 0
       combined-past e i l h = combined-bit e i l ∙ ap (applied op (spanBit W ws s i)) (right-past W vs t i h)
 
-      pub combined-beside : (k p : ℕ) → p < W → spanCovers W s (k * W + p) ≡ false → bitN (getD (after W (combine op s vs t) ws) k 0) p ≡ bitN (getD ws k 0) p
+      pub combined-beside : (k p : ℕ) → p < W → spanCovers W s (k * W + p) ≡ false → bitN (getD (after W (boolean op s vs t) ws) k 0) p ≡ bitN (getD ws k 0) p
       unfolding writes!
-      combined-beside k p l out = beside W wide (combine op s vs t) ws k p l out
+      combined-beside k p l out = beside W wide (boolean op s vs t) ws k p l out
 
     -- Right bits past the left's end are ignored: two right sides that agree up to there leave the same words.
-    pub combined-ignores : (vs : List ℕ) (t : Span) (us : List ℕ) (r : Span) → answer W (combine op s vs t) ws ≡ done → answer W (combine op s us r) ws ≡ done
-        → ((i : ℕ) → i < s .len → rightBit W vs t i ≡ rightBit W us r i) → after W (combine op s vs t) ws ≡ after W (combine op s us r) ws
+    pub combined-ignores : (vs : List ℕ) (t : Span) (us : List ℕ) (r : Span) → answer W (boolean op s vs t) ws ≡ done → answer W (boolean op s us r) ws ≡ done
+        → ((i : ℕ) → i < s .len → rightBit W vs t i ≡ rightBit W us r i) → after W (boolean op s vs t) ws ≡ after W (boolean op s us r) ws
     unfolding after! combined
     combined-ignores vs t us r e f same =
-        accepted-call W (combine op s vs t) ws (fine-of-done W (combine op s vs t) ws e) .1
+        accepted-call W (boolean op s vs t) ws (fine-of-done W (boolean op s vs t) ws e) .1
         ∙ splice-eq W wide (s .order) ws (start W s) (s .len) (λ i. applied op (spanBit W ws s i) (rightBit W vs t i)) (λ i. applied op (spanBit W ws s i) (rightBit W us r i))
         (λ i l. ap (applied op (spanBit W ws s i)) (same i l))
-        ∙ sym (accepted-call W (combine op s us r) ws (fine-of-done W (combine op s us r) ws f) .1)
+        ∙ sym (accepted-call W (boolean op s us r) ws (fine-of-done W (boolean op s us r) ws f) .1)
 
   -- ---- swap: two buffers
 

@@ -14,7 +14,7 @@ use Rattle.rules.specs.Types.{Order, Span, Significance, Sign, Refusal, 
 use Rattle.rules.specs.Bits.{bitN, ofBits, tabulate, bitAt, fromBits}
 use Rattle.rules.specs.Positions.{row, start, spanBit, position, mirror, fromRow, within, over, spliced}
 use Rattle.rules.specs.Fields.{loadOf, readAs, bitsOf, storeOf, fits}
-use Rattle.rules.specs.Rows.{copied, moved, copiedInside, applied, rightBit, combined, sameBits, sameSpans, firstWith, lastWith}
+use Rattle.rules.specs.Rows.{copied, moved, copiedWithin, applied, rightBit, combined, sameBits, sameSpans, firstWith, lastWith}
 use Rattle.rules.specs.Refusals.{number, verdict}
 use Rattle.rules.specs.Calls.{Answer, refused, done, found-at, absent, said, unless, Call, firstFound, lastFound, cases, answer!, after!, answer, after, swapVerdict, swapAnswer, swapLeft, swapRight}
 use Rattle.rules.proofs.Bit.{bit-bit, bit-cases}
@@ -96,17 +96,17 @@ module _ (W : ℕ) (pos : 0 < W) (ws : List ℕ) (s : Span) (bounds : start W s 
       spliced-inside W pos (s .order) ws (start W s) (s .len) (λ i. row W (t .order) vs (start W t + i)) bounds i h ∙ row-bit W (t .order) vs (start W t + i)
 
   -- Copy inside: bit to + i becomes the old bit from + i.
-  pub inside-bit : (from count to i : ℕ) → to + count ≤ s .len → i < count → spanBit W (copiedInside W ws s from count to) s (to + i) ≡ spanBit W ws s (from + i)
-  unfolding spanBit copiedInside moved
+  pub inside-bit : (from count to i : ℕ) → to + count ≤ s .len → i < count → spanBit W (copiedWithin W ws s from count to) s (to + i) ≡ spanBit W ws s (from + i)
+  unfolding spanBit copiedWithin moved
   inside-bit from count to i l h =
-      ap (row W (s .order) (copiedInside W ws s from count to)) (sym (add-assoc (start W s) to i))
+      ap (row W (s .order) (copiedWithin W ws s from count to)) (sym (add-assoc (start W s) to i))
       ∙ spliced-inside W pos (s .order) ws (start W s + to) count (λ i. row W (s .order) ws (start W s + from + i)) (omega arith) i h
       ∙ row-bit W (s .order) ws (start W s + from + i) ∙ ap (row W (s .order) ws) (add-assoc (start W s) from i)
 
   -- Boolean: into the left span.
-  pub combine-bit : (op : ℕ) (vs : List ℕ) (t : Span) (i : ℕ) → i < s .len → spanBit W (combined W op ws s vs t) s i ≡ applied op (spanBit W ws s i) (rightBit W vs t i)
+  pub boolean-bit : (op : ℕ) (vs : List ℕ) (t : Span) (i : ℕ) → i < s .len → spanBit W (combined W op ws s vs t) s i ≡ applied op (spanBit W ws s i) (rightBit W vs t i)
   unfolding spanBit combined applied
-  combine-bit op vs t i h =
+  boolean-bit op vs t i h =
       spliced-inside W pos (s .order) ws (start W s) (s .len) (λ i. bitN op (2 * spanBit W ws s i + rightBit W vs t i)) bounds i h
       ∙ bit-bit op (2 * spanBit W ws s i + rightBit W vs t i)
 

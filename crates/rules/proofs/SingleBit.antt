@@ -33,14 +33,14 @@ module _ (W : ℕ) (ws : List ℕ) (s : Span) (i : ℕ) where
   read-refused r e = sym (refused-call W (readBit s i) ws r e .0)
 
   pub write-refused : (v : Bool) (r : Refusal) {m : List ℕ} → verdict (bitCases W (length ws) s i) ≡ Refused r → m ≡ ws
-      → Gives (answer W (writeBit s i v) ws) (after W (writeBit s i v) ws) (writeSays (Write·Refused r)) m
+      → Gives W (writeBit s i v) ws (writeSays (Write·Refused r)) m
   unfolding cases
   write-refused v r e em =
       let c = refused-call W (writeBit s i v) ws r e in
       record { answers = sym (c .0); holds = em ∙ sym (c .1) }
 
   pub write-done : (v : Bool) {m : List ℕ} → verdict (bitCases W (length ws) s i) ≡ Fine → m ≡ spliced W (s .order) ws (start W s + i) 1 (λ _. digit v)
-      → Gives (answer W (writeBit s i v) ws) (after W (writeBit s i v) ws) (writeSays Done) m
+      → Gives W (writeBit s i v) ws (writeSays Done) m
   unfolding cases answer! after!
   write-done v e em =
       let c = accepted-call W (writeBit s i v) ws e in

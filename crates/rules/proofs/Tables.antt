@@ -9,7 +9,7 @@ use lib.Dec.{eqb}
 use Rattle.rules.specs.Types.{Order, Span, Refusal, TooManyWords, IndexTooLarge, OutOfBounds, NoSuchK, FieldLength, OrdersDiffer, LengthsDiffer, Verdict, Fine, Refused, Lsb0, Msb0, Unsigned, Signed, NotAnInteger, DoesNotFit, NotBelow}
 use Rattle.rules.specs.Positions.{inBounds}
 use Rattle.rules.specs.Fields.{isSize, isInteger, fits}
-use Rattle.rules.specs.Refusals.{Case, _when_, orElse, verdict, spanCases, fieldCases, maskCases, valueCases, fittingCases, strictCases, pairCases, copyCases, insideCases}
+use Rattle.rules.specs.Refusals.{Case, _when_, orElse, verdict, spanCases, fieldCases, maskCases, valueCases, fittingCases, storeStrictCases, pairCases, copyCases, withinCases}
 use lib.IntN.{pos, negsuc}
 use Rattle.rules.specs.Samples.{at-head}
 
@@ -42,21 +42,21 @@ in-order = map verdict (
     ∷ pairCases 8 1 (fits-in Lsb0) 1 (too-long Msb0)
     ∷ pairCases 8 1 (fits-in Lsb0) 2 (too-long Msb0)
     ∷ pairCases 8 1 (fits-in Lsb0) 2 (too-long Lsb0)
-    ∷ insideCases 8 65537 (no-index Lsb0) 1 9 1
-    ∷ insideCases 8 1 (no-index Lsb0) 1 9 1
-    ∷ insideCases 8 1 (too-long Lsb0) 1 9 1
-    ∷ insideCases 8 1 (fits-in Lsb0) 1 8 0
-    ∷ insideCases 8 1 (fits-in Lsb0) 0 8 1
-    ∷ insideCases 8 1 (fits-in Lsb0) 0xffffffffffffffff 1 0
-    ∷ insideCases 8 1 (fits-in Lsb0) 1 7 0
-    ∷ strictCases 8 65537 (no-index Lsb0) 7 Unsigned (pos 512)
-    ∷ strictCases 8 1 (no-index Lsb0) 7 Unsigned (pos 512)
-    ∷ strictCases 8 1 (too-long Lsb0) 7 Unsigned (pos 512)
-    ∷ strictCases 8 2 (too-long Lsb0) 7 Unsigned (pos 512)
-    ∷ strictCases 8 2 (too-long Lsb0) 8 Unsigned (pos 512)
-    ∷ strictCases 8 2 (fits-in Lsb0) 8 Unsigned (pos 512)
-    ∷ strictCases 8 2 (fits-in Lsb0) 16 Unsigned (pos 512)
-    ∷ strictCases 8 2 (too-long Lsb0) 16 Unsigned (pos 511)
+    ∷ withinCases 8 65537 (no-index Lsb0) 1 9 1
+    ∷ withinCases 8 1 (no-index Lsb0) 1 9 1
+    ∷ withinCases 8 1 (too-long Lsb0) 1 9 1
+    ∷ withinCases 8 1 (fits-in Lsb0) 1 8 0
+    ∷ withinCases 8 1 (fits-in Lsb0) 0 8 1
+    ∷ withinCases 8 1 (fits-in Lsb0) 0xffffffffffffffff 1 0
+    ∷ withinCases 8 1 (fits-in Lsb0) 1 7 0
+    ∷ storeStrictCases 8 65537 (no-index Lsb0) 7 Unsigned (pos 512)
+    ∷ storeStrictCases 8 1 (no-index Lsb0) 7 Unsigned (pos 512)
+    ∷ storeStrictCases 8 1 (too-long Lsb0) 7 Unsigned (pos 512)
+    ∷ storeStrictCases 8 2 (too-long Lsb0) 7 Unsigned (pos 512)
+    ∷ storeStrictCases 8 2 (too-long Lsb0) 8 Unsigned (pos 512)
+    ∷ storeStrictCases 8 2 (fits-in Lsb0) 8 Unsigned (pos 512)
+    ∷ storeStrictCases 8 2 (fits-in Lsb0) 16 Unsigned (pos 512)
+    ∷ storeStrictCases 8 2 (too-long Lsb0) 16 Unsigned (pos 511)
     ∷ []
     )
 
@@ -68,7 +68,7 @@ pub refused-in-order :
     ∷ Refused TooManyWords ∷ Refused IndexTooLarge ∷ Refused OutOfBounds ∷ Refused NotBelow ∷ Refused NotBelow ∷ Refused NotBelow ∷ Fine
     ∷ Refused TooManyWords ∷ Refused IndexTooLarge ∷ Refused OutOfBounds ∷ Refused NoSuchK ∷ Refused FieldLength ∷ Refused NotAnInteger ∷ Refused DoesNotFit
     ∷ Fine ∷ []
-unfolding in-order verdict spanCases fieldCases valueCases fittingCases strictCases pairCases copyCases insideCases inBounds isSize isInteger fits
+unfolding in-order verdict spanCases fieldCases valueCases fittingCases storeStrictCases pairCases copyCases withinCases inBounds isSize isInteger fits
 refused-in-order = refl
 
 -- ---- the limits

@@ -10,9 +10,9 @@ use Rattle.rules.specs.Types.{Lsb0, Msb0, Le, Be, Unsigned, Signed}
 use Rattle.rules.specs.Bits.{bitN, ofBits, tabulate, bitAt, fromBits}
 use Rattle.rules.specs.Positions.{position, mirror, row, fromRow, start, spanBit, inBounds, within, over, spliced, covers}
 use Rattle.rules.specs.Fields.{isSize, pieceFrom, pieceUpto, exponent, weigh, loadOf, signedOf, readAs, bitsOf, storeOf, isInteger, fits}
-use Rattle.rules.specs.Rows.{copied, moved, copiedInside, applied, rightBit, combined, sameBits, sameSpans, firstWith, lastWith}
-use Rattle.rules.specs.Refusals.{verdict, spanCases, bitCases, fieldCases, valueCases, fittingCases, loadCases, storeCases, strictCases, pairCases, copyCases, insideCases}
-use Rattle.rules.specs.Calls.{Answer, refused, done, a-position, a-selector, a-mask, a-span, two-spans, a-bit, a-number, says-yes, says-no, found-at, absent, Call, here, there, readBit, writeBit, load, store, strictStore, copyBetween, copyInside, combine, equal, findFirst, findLast, cases, answer!, after!, reads!, writes!, answer, after, reads, writes}
+use Rattle.rules.specs.Rows.{copied, moved, copiedWithin, applied, rightBit, combined, sameBits, sameSpans, firstWith, lastWith}
+use Rattle.rules.specs.Refusals.{verdict, spanCases, bitCases, fieldCases, valueCases, fittingCases, loadCases, storeCases, storeStrictCases, pairCases, copyCases, withinCases}
+use Rattle.rules.specs.Calls.{Answer, refused, done, a-position, a-selector, a-mask, a-span, two-spans, a-bit, a-number, says-yes, says-no, found-at, absent, Call, here, there, readBit, writeBit, load, store, storeStrict, copyFrom, copyWithin, boolean, equal, findFirst, findLast, cases, answer!, after!, reads!, writes!, answer, after, reads, writes}
 use Rattle.rules.specs.Samples.{at-head}
 
 -- a number that tells the answers of one-buffer calls apart
@@ -68,8 +68,8 @@ ones = 0xFF ∷ 0xFF ∷ []
 pub no-idle-read :
     reads-matter (readBit (at-head Msb0 3 9) 6) zeros
     ∷ reads-matter (load (at-head Lsb0 5 9) 16 Be Signed) zeros
-    ∷ reads-matter (copyInside (at-head Msb0 1 13) 2 5 4) zeros
-    ∷ reads-matter (combine 6 (at-head Lsb0 3 9) ones (at-head Lsb0 2 5)) zeros
+    ∷ reads-matter (copyWithin (at-head Msb0 1 13) 2 5 4) zeros
+    ∷ reads-matter (boolean 6 (at-head Lsb0 3 9) ones (at-head Lsb0 2 5)) zeros
     ∷ reads-matter (equal here (at-head Msb0 0 6) here (at-head Msb0 7 6)) zeros
     ∷ reads-matter (equal (there zeros) (at-head Lsb0 2 9) here (at-head Lsb0 3 9)) zeros
     ∷ reads-matter (findFirst 1 (at-head Lsb0 3 9)) zeros
@@ -78,17 +78,17 @@ pub no-idle-read :
     ∷ reads-matter (findLast 0 (at-head Lsb0 3 9)) ones
     ∷ []
     ≡ true ∷ true ∷ true ∷ true ∷ true ∷ true ∷ true ∷ true ∷ true ∷ true ∷ []
-unfolding reads-matter matters some every turned reads writes reads! writes! covers answer after answer! after! cases verdict spanCases bitCases fieldCases loadCases pairCases insideCases isSize inBounds within over spliced fromRow fromBits tabulate ofBits spanBit start row mirror position bitAt bitN loadOf readAs signedOf weigh exponent pieceFrom pieceUpto copiedInside moved combined applied rightBit sameBits sameSpans firstWith lastWith
+unfolding reads-matter matters some every turned reads writes reads! writes! covers answer after answer! after! cases verdict spanCases bitCases fieldCases loadCases pairCases withinCases isSize inBounds within over spliced fromRow fromBits tabulate ofBits spanBit start row mirror position bitAt bitN loadOf readAs signedOf weigh exponent pieceFrom pieceUpto copiedWithin moved combined applied rightBit sameBits sameSpans firstWith lastWith
 no-idle-read = refl
 
 pub no-idle-write :
     writes-change (writeBit (at-head Msb0 3 9) 6 true) zeros
     ∷ writes-change (store (at-head Lsb0 5 9) 16 Be Signed (negsuc 0)) zeros
-    ∷ writes-change (strictStore (at-head Msb0 5 9) 16 Le Unsigned (pos 511)) zeros
-    ∷ writes-change (copyBetween (at-head Msb0 3 9) ones (at-head Msb0 1 9)) zeros
-    ∷ writes-change (copyInside (at-head Lsb0 0 16) 8 8 0) (0 ∷ 0xFF ∷ [])
-    ∷ writes-change (combine 6 (at-head Lsb0 3 9) ones (at-head Lsb0 2 9)) zeros
+    ∷ writes-change (storeStrict (at-head Msb0 5 9) 16 Le Unsigned (pos 511)) zeros
+    ∷ writes-change (copyFrom (at-head Msb0 3 9) ones (at-head Msb0 1 9)) zeros
+    ∷ writes-change (copyWithin (at-head Lsb0 0 16) 8 8 0) (0 ∷ 0xFF ∷ [])
+    ∷ writes-change (boolean 6 (at-head Lsb0 3 9) ones (at-head Lsb0 2 9)) zeros
     ∷ []
     ≡ true ∷ true ∷ true ∷ true ∷ true ∷ true ∷ []
-unfolding writes-change some every writes writes! covers after after! cases verdict spanCases bitCases fieldCases valueCases fittingCases loadCases storeCases strictCases pairCases copyCases insideCases isSize isInteger fits inBounds within over spliced fromRow fromBits tabulate ofBits spanBit start row mirror position bitAt bitN storeOf bitsOf exponent pieceFrom pieceUpto copied copiedInside moved combined applied rightBit
+unfolding writes-change some every writes writes! covers after after! cases verdict spanCases bitCases fieldCases valueCases fittingCases loadCases storeCases storeStrictCases pairCases copyCases withinCases isSize isInteger fits inBounds within over spliced fromRow fromBits tabulate ofBits spanBit start row mirror position bitAt bitN storeOf bitsOf exponent pieceFrom pieceUpto copied copiedWithin moved combined applied rightBit
 no-idle-write = refl

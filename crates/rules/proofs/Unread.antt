@@ -11,7 +11,7 @@ use Rattle.rules.specs.Types.{Span, Refusal, Verdict, Fine, Refused}
 use Rattle.rules.specs.Rows.{sameSpans, firstWith, lastWith}
 use Rattle.rules.specs.Positions.{spanBit}
 use Rattle.rules.specs.Refusals.{number, verdict, pairCases, copyCases}
-use Rattle.rules.specs.Calls.{refused, done, says-yes, says-no, found-at, absent, said, Side, here, there, wordsOf, lentOf, firstFound, lastFound, Call, readBit, writeBit, load, store, strictStore, copyBetween, copyInside, combine, equal, findFirst, findLast, cases, answer!, answer, swapVerdict, swapAnswer}
+use Rattle.rules.specs.Calls.{refused, done, says-yes, says-no, found-at, absent, said, Side, here, there, wordsOf, lentOf, firstFound, lastFound, Call, readBit, writeBit, load, store, storeStrict, copyFrom, copyWithin, boolean, equal, findFirst, findLast, cases, answer!, answer, swapVerdict, swapAnswer}
 
 -- words with no bit set
 abbrev pub blank : List ℕ → List ℕ
@@ -27,10 +27,10 @@ blankCall (readBit s i) = readBit s i
 blankCall (writeBit s i b) = writeBit s i b
 blankCall (load s K e g) = load s K e g
 blankCall (store s K e g v) = store s K e g v
-blankCall (strictStore s K e g v) = strictStore s K e g v
-blankCall (copyBetween s vs t) = copyBetween s (blank vs) t
-blankCall (copyInside s from count to) = copyInside s from count to
-blankCall (combine op s vs t) = combine op s (blank vs) t
+blankCall (storeStrict s K e g v) = storeStrict s K e g v
+blankCall (copyFrom s vs t) = copyFrom s (blank vs) t
+blankCall (copyWithin s from count to) = copyWithin s from count to
+blankCall (boolean op s vs t) = boolean op s (blank vs) t
 blankCall (equal a s b t) = equal (blankSide a) s (blankSide b) t
 blankCall (findFirst v s) = findFirst v s
 blankCall (findLast v s) = findLast v s
@@ -49,10 +49,10 @@ cases-blank W n (readBit s i) = refl
 cases-blank W n (writeBit s i b) = refl
 cases-blank W n (load s K e g) = refl
 cases-blank W n (store s K e g v) = refl
-cases-blank W n (strictStore s K e g v) = refl
-cases-blank W n (copyBetween s vs t) = ap (λ (m : ℕ). copyCases W n s m t) (length-blank vs)
-cases-blank W n (copyInside s from count to) = refl
-cases-blank W n (combine op s vs t) = ap (λ (m : ℕ). pairCases W n s m t) (length-blank vs)
+cases-blank W n (storeStrict s K e g v) = refl
+cases-blank W n (copyFrom s vs t) = ap (λ (m : ℕ). copyCases W n s m t) (length-blank vs)
+cases-blank W n (copyWithin s from count to) = refl
+cases-blank W n (boolean op s vs t) = ap (λ (m : ℕ). pairCases W n s m t) (length-blank vs)
 cases-blank W n (equal a s b t) = ap₂ (λ (m k : ℕ). pairCases W m s k t) (lent-blank n a) (lent-blank n b)
 cases-blank W n (findFirst v s) = refl
 cases-blank W n (findLast v s) = refl
@@ -85,10 +85,10 @@ unrefused W (readBit s i) ws m e = let z : _≡_ {A = ℕ} 0 1 = cc in omega ari
 unrefused W (writeBit s i b) ws m e = let z : _≡_ {A = ℕ} 0 1 = cc in omega arith
 unrefused W (load s K e′ g) ws m e = let z : _≡_ {A = ℕ} 0 1 = cc in omega arith
 unrefused W (store s K e′ g v) ws m e = let z : _≡_ {A = ℕ} 0 1 = cc in omega arith
-unrefused W (strictStore s K e′ g v) ws m e = let z : _≡_ {A = ℕ} 0 1 = cc in omega arith
-unrefused W (copyBetween s vs t) ws m e = let z : _≡_ {A = ℕ} 0 1 = cc in omega arith
-unrefused W (copyInside s from count to) ws m e = let z : _≡_ {A = ℕ} 0 1 = cc in omega arith
-unrefused W (combine op s vs t) ws m e = let z : _≡_ {A = ℕ} 0 1 = cc in omega arith
+unrefused W (storeStrict s K e′ g v) ws m e = let z : _≡_ {A = ℕ} 0 1 = cc in omega arith
+unrefused W (copyFrom s vs t) ws m e = let z : _≡_ {A = ℕ} 0 1 = cc in omega arith
+unrefused W (copyWithin s from count to) ws m e = let z : _≡_ {A = ℕ} 0 1 = cc in omega arith
+unrefused W (boolean op s vs t) ws m e = let z : _≡_ {A = ℕ} 0 1 = cc in omega arith
 unrefused W (equal a s b t) ws m e = equal-unrefused (sameSpans W (wordsOf ws a) s (wordsOf ws b) t) m e
 unrefused W (findFirst v s) ws m e = found-unrefused (s .len) (firstWith (s .len) (spanBit W ws s) v) m e
 unrefused W (findLast v s) ws m e = last-unrefused (lastWith (s .len) (spanBit W ws s) v) m e

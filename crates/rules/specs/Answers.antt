@@ -4,10 +4,10 @@ use Prim.Native.Nat.{ℕ}
 use mathlib.Core.Path.{_≡_}
 use mathlib.Core.List.{List}
 use lib.IntN.{pos}
-use Rattle.rules.specs.Types.{Verdict, Fine, Refused, PositionAnswer, Position·Is, Position·Refused, SelectorAnswer, Selector·Is, Selector·Refused, MaskAnswer, Mask·Is, Mask·Refused, SplitAnswer, Parts, Split·Refused, SpanAnswer, Span·Is, Span·Refused, BitAnswer, Bit·Is, Bit·Refused, NumberAnswer, Number·Is, Number·Refused, LowBitsAnswer, LowBits·Is, LowBits·Refused, MachineAnswer, Machine·Is, Machine·Refused, WriteAnswer, Done, Write·Refused, EqualAnswer, Yes, No, Equal·Refused, SearchAnswer, At, Absent, Search·Refused}
+use Rattle.rules.specs.Types.{Span, Verdict, Fine, Refused, PositionAnswer, Position·Is, Position·Refused, SelectorAnswer, Selector·Is, Selector·Refused, MaskAnswer, Mask·Is, Mask·Refused, SplitAnswer, Parts, Split·Refused, SpanAnswer, Span·Is, Span·Refused, BitAnswer, Bit·Is, Bit·Refused, NumberAnswer, Number·Is, Number·Refused, LowBitsAnswer, LowBits·Is, LowBits·Refused, MachineAnswer, Machine·Is, Machine·Refused, WriteAnswer, Done, Write·Refused, EqualAnswer, Yes, No, Equal·Refused, SearchAnswer, At, Absent, Search·Refused}
 use Rattle.rules.specs.Fields.{whole}
 use Rattle.rules.specs.Refusals.{Case, number, verdict}
-use Rattle.rules.specs.Calls.{Answer, refused, done, a-position, a-selector, a-mask, a-span, two-spans, a-bit, a-number, says-yes, says-no, found-at, absent, digit}
+use Rattle.rules.specs.Calls.{Answer, refused, done, a-position, a-selector, a-mask, a-span, two-spans, a-bit, a-number, says-yes, says-no, found-at, absent, digit, Call, answer, after, swapAnswer, swapLeft, swapRight}
 
 -- a check: nothing to refuse, or a refusal's number
 abbrev pub verdictSays : Verdict → Answer
@@ -80,7 +80,13 @@ searchSays (Search·Refused r) = refused (number r)
 pub record Judges (table : List Case) (r : Verdict) : Type 0 where
   pub says : verdictSays r ≡ verdictSays (verdict table)
 
--- what a call promises of its answer r and of the memory m that it leaves: this one answer, and each lent bit
-pub record Gives {A : Type 0} (answer : A) (memory : List ℕ) (r : A) (m : List ℕ) : Type 0 where
-  pub answers : r ≡ answer
-  pub holds : m ≡ memory
+-- what a writing call promises of its answer r and of the memory that it leaves, where it found `old`: this one answer, and each lent bit
+pub record Gives (W : ℕ) (call : Call) (old : List ℕ) (r : Answer) (new : List ℕ) : Type 0 where
+  pub answers : r ≡ answer W call old
+  pub holds : new ≡ after W call old
+
+-- the same of a swap, with both buffers
+pub record Swaps (W : ℕ) (left : List ℕ) (s : Span) (right : List ℕ) (t : Span) (r : Answer) (newLeft newRight : List ℕ) : Type 0 where
+  pub answers : r ≡ swapAnswer W left s right t
+  pub holds-left : newLeft ≡ swapLeft W left s right t
+  pub holds-right : newRight ≡ swapRight W left s right t

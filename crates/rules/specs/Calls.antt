@@ -9,8 +9,8 @@ use lib.IntN.{ℤ, pos}
 use Rattle.rules.specs.Types.{Order, Span, Significance, Sign, Verdict, Fine, Refused}
 use Rattle.rules.specs.Positions.{position, selector, mask, start, spanBit, firstHalf, secondHalf, spliced, covers}
 use Rattle.rules.specs.Fields.{loadOf, readAs, bitsOf, storeOf}
-use Rattle.rules.specs.Rows.{copied, copiedInside, combined, sameSpans, firstWith, lastWith}
-use Rattle.rules.specs.Refusals.{Case, number, verdict, spanCases, indexCases, maskCases, splitCases, bitCases, fieldCases, valueCases, fittingCases, machineCases, loadCases, storeCases, strictCases, pairCases, copyCases, insideCases}
+use Rattle.rules.specs.Rows.{copied, copiedWithin, combined, sameSpans, firstWith, lastWith}
+use Rattle.rules.specs.Refusals.{Case, number, verdict, spanCases, indexCases, maskCases, splitCases, bitCases, fieldCases, valueCases, fittingCases, machineCases, loadCases, storeCases, storeStrictCases, pairCases, copyCases, withinCases}
 
 -- what a call may answer
 pub data Answer : Type 0 where
@@ -109,10 +109,10 @@ pub data Call : Type 0 where
   readBit : Span → ℕ → Call
   writeBit : Span → ℕ → Bool → Call
   load : Span → ℕ → Significance → Sign → Call
-  store strictStore : Span → ℕ → Significance → Sign → ℤ → Call
-  copyBetween : Span → List ℕ → Span → Call
-  copyInside : Span → ℕ → ℕ → ℕ → Call
-  combine : ℕ → Span → List ℕ → Span → Call
+  store storeStrict : Span → ℕ → Significance → Sign → ℤ → Call
+  copyFrom : Span → List ℕ → Span → Call
+  copyWithin : Span → ℕ → ℕ → ℕ → Call
+  boolean : ℕ → Span → List ℕ → Span → Call
   equal : Side → Span → Side → Span → Call
   findFirst findLast : ℕ → Span → Call
 
@@ -146,10 +146,10 @@ cases W n (readBit s i) = bitCases W n s i
 cases W n (writeBit s i b) = bitCases W n s i
 cases W n (load s K e g) = loadCases W n s K
 cases W n (store s K e g v) = storeCases W n s K g v
-cases W n (strictStore s K e g v) = strictCases W n s K g v
-cases W n (copyBetween s vs t) = copyCases W n s (length vs) t
-cases W n (copyInside s from count to) = insideCases W n s from count to
-cases W n (combine op s vs t) = pairCases W n s (length vs) t
+cases W n (storeStrict s K e g v) = storeStrictCases W n s K g v
+cases W n (copyFrom s vs t) = copyCases W n s (length vs) t
+cases W n (copyWithin s from count to) = withinCases W n s from count to
+cases W n (boolean op s vs t) = pairCases W n s (length vs) t
 cases W n (equal a s b t) = pairCases W (lentOf n a) s (lentOf n b) t
 cases W n (findFirst v s) = spanCases W n s
 cases W n (findLast v s) = spanCases W n s
@@ -160,10 +160,10 @@ answer! W (readBit s i) ws = a-bit (spanBit W ws s i)
 answer! W (writeBit s i b) ws = done
 answer! W (load s K e g) ws = a-number (readAs g (s .len) (loadOf W (s .order) e ws (start W s) (s .len)))
 answer! W (store s K e g v) ws = done
-answer! W (strictStore s K e g v) ws = done
-answer! W (copyBetween s vs t) ws = done
-answer! W (copyInside s from count to) ws = done
-answer! W (combine op s vs t) ws = done
+answer! W (storeStrict s K e g v) ws = done
+answer! W (copyFrom s vs t) ws = done
+answer! W (copyWithin s from count to) ws = done
+answer! W (boolean op s vs t) ws = done
 answer! W (equal a s b t) ws = cond (sameSpans W (wordsOf ws a) s (wordsOf ws b) t) says-yes says-no
 answer! W (findFirst v s) ws = firstFound (s .len) (firstWith (s .len) (spanBit W ws s) v)
 answer! W (findLast v s) ws = lastFound (lastWith (s .len) (spanBit W ws s) v)
@@ -174,10 +174,10 @@ after! W (readBit s i) ws = ws
 after! W (writeBit s i b) ws = spliced W (s .order) ws (start W s + i) 1 (λ _. digit b)
 after! W (load s K e g) ws = ws
 after! W (store s K e g v) ws = storeOf W (s .order) e ws (start W s) (s .len) (bitsOf K v)
-after! W (strictStore s K e g v) ws = storeOf W (s .order) e ws (start W s) (s .len) (bitsOf K v)
-after! W (copyBetween s vs t) ws = copied W ws s vs t
-after! W (copyInside s from count to) ws = copiedInside W ws s from count to
-after! W (combine op s vs t) ws = combined W op ws s vs t
+after! W (storeStrict s K e g v) ws = storeOf W (s .order) e ws (start W s) (s .len) (bitsOf K v)
+after! W (copyFrom s vs t) ws = copied W ws s vs t
+after! W (copyWithin s from count to) ws = copiedWithin W ws s from count to
+after! W (boolean op s vs t) ws = combined W op ws s vs t
 after! W (equal a s b t) ws = ws
 after! W (findFirst v s) ws = ws
 after! W (findLast v s) ws = ws
@@ -197,10 +197,10 @@ reads! W (readBit s i) q = covers W (s .order) (start W s + i) 1 q
 reads! W (writeBit s i b) q = false
 reads! W (load s K e g) q = spanCovers W s q
 reads! W (store s K e g v) q = false
-reads! W (strictStore s K e g v) q = false
-reads! W (copyBetween s vs t) q = false
-reads! W (copyInside s from count to) q = covers W (s .order) (start W s + from) count q
-reads! W (combine op s vs t) q = spanCovers W s q
+reads! W (storeStrict s K e g v) q = false
+reads! W (copyFrom s vs t) q = false
+reads! W (copyWithin s from count to) q = covers W (s .order) (start W s + from) count q
+reads! W (boolean op s vs t) q = spanCovers W s q
 reads! W (equal a s b t) q = sideReads W a s q || sideReads W b t q
 reads! W (findFirst v s) q = spanCovers W s q
 reads! W (findLast v s) q = spanCovers W s q
@@ -211,10 +211,10 @@ writes! W (readBit s i) q = false
 writes! W (writeBit s i b) q = covers W (s .order) (start W s + i) 1 q
 writes! W (load s K e g) q = false
 writes! W (store s K e g v) q = spanCovers W s q
-writes! W (strictStore s K e g v) q = spanCovers W s q
-writes! W (copyBetween s vs t) q = spanCovers W s q
-writes! W (copyInside s from count to) q = covers W (s .order) (start W s + to) count q
-writes! W (combine op s vs t) q = spanCovers W s q
+writes! W (storeStrict s K e g v) q = spanCovers W s q
+writes! W (copyFrom s vs t) q = spanCovers W s q
+writes! W (copyWithin s from count to) q = covers W (s .order) (start W s + to) count q
+writes! W (boolean op s vs t) q = spanCovers W s q
 writes! W (equal a s b t) q = false
 writes! W (findFirst v s) q = false
 writes! W (findLast v s) q = false

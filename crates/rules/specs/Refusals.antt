@@ -84,8 +84,8 @@ unfoldable pub storeCases : ℕ → ℕ → Span → ℕ → Sign → ℤ → Li
 storeCases W n s K g v = spanCases W n s ++ valueCases K (s .len) g v
 
 -- strict store. 1 to 3; 4, 5; 8; 9
-unfoldable pub strictCases : ℕ → ℕ → Span → ℕ → Sign → ℤ → List Case
-strictCases W n s K g v = spanCases W n s ++ fittingCases K (s .len) g v
+unfoldable pub storeStrictCases : ℕ → ℕ → Span → ℕ → Sign → ℤ → List Case
+storeStrictCases W n s K g v = spanCases W n s ++ fittingCases K (s .len) g v
 
 -- a number as the machine's signed 64 bits. 8: it is none
 unfoldable pub machineCases : ℤ → List Case
@@ -108,6 +108,6 @@ unfoldable pub copyCases : ℕ → ℕ → Span → ℕ → Span → List Case
 copyCases W n s m t = pairCases W n s m t ++ (LengthsDiffer when not (eqb (s .len) (t .len)) ∷ [])
 
 -- copy inside. 1 to 3; 10: start + count or destination + count above the span's length
-unfoldable pub insideCases : ℕ → ℕ → Span → ℕ → ℕ → ℕ → List Case
-insideCases W n s from count to =
+unfoldable pub withinCases : ℕ → ℕ → Span → ℕ → ℕ → ℕ → List Case
+withinCases W n s from count to =
     spanCases W n s ++ (NotBelow when (ltb (s .len) (from + count) || ltb (s .len) (to + count)) ∷ [])

@@ -17,8 +17,8 @@ unfoldable pub moved : ℕ → Order → List ℕ → ℕ → ℕ → ℕ → Li
 moved W o ws from to n = spliced W o ws to n (λ i. row W o ws (from + i))
 
 -- Copy inside: bit to + i of the row span becomes the old bit from + i, for all i at once. Other bits stay.
-unfoldable pub copiedInside : ℕ → List ℕ → Span → ℕ → ℕ → ℕ → List ℕ
-copiedInside W ws s from count to = moved W (s .order) ws (start W s + from) (start W s + to) count
+unfoldable pub copiedWithin : ℕ → List ℕ → Span → ℕ → ℕ → ℕ → List ℕ
+copiedWithin W ws s from count to = moved W (s .order) ws (start W s + from) (start W s + to) count
 
 -- Boolean: an operation is its truth table's number; for left bit a and right bit b the result is its bit 2 a + b.
 abbrev pub operation : Operation → ℕ

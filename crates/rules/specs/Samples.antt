@@ -7,9 +7,9 @@ use Rattle.rules.specs.Types.{Order, Lsb0, Msb0, Span, Le, Be, Unsigned,
 use Rattle.rules.specs.Bits.{bitN, ofBits, tabulate, bitAt, fromBits}
 use Rattle.rules.specs.Positions.{position, mirror, row, fromRow, start, spanBit, inBounds, within, over, spliced}
 use Rattle.rules.specs.Fields.{pieceFrom, pieceUpto, exponent, weigh, loadOf, signedOf, readAs, bitsOf, storeOf, isSize, isInteger}
-use Rattle.rules.specs.Rows.{moved, copiedInside}
-use Rattle.rules.specs.Refusals.{verdict, spanCases, fieldCases, valueCases, loadCases, storeCases, insideCases}
-use Rattle.rules.specs.Calls.{Answer, done, a-number, Call, load, store, copyInside, cases, answer!, after!, answer, after}
+use Rattle.rules.specs.Rows.{moved, copiedWithin}
+use Rattle.rules.specs.Refusals.{verdict, spanCases, fieldCases, valueCases, loadCases, storeCases, withinCases}
+use Rattle.rules.specs.Calls.{Answer, done, a-number, Call, load, store, copyWithin, cases, answer!, after!, answer, after}
 
 -- a span in the first byte
 abbrev pub at-head : Order → ℕ → ℕ → Span
@@ -62,7 +62,7 @@ samples =
     ∷ on (load (at-head Msb0 4 16) 16 Le Unsigned) bytes
     ∷ on (store (at-head Lsb0 4 8) 8 Le Unsigned (pos 0xCB)) zeros
     ∷ on (store (at-head Msb0 4 8) 8 Le Unsigned (pos 0xCB)) zeros
-    ∷ on (copyInside (at-head Lsb0 0 8) 0 5 2) (0xB4 ∷ [])
+    ∷ on (copyWithin (at-head Lsb0 0 8) 0 5 2) (0xB4 ∷ [])
     ∷ []
 
 -- the marked rows of the sample table
@@ -70,5 +70,5 @@ pub sample-rows :
     map outcome samples
     ≡ loads (pos 0xCB) ∷ loads (pos 0x64) ∷ loads (pos 0xBC) ∷ loads (pos 0x46) ∷ loads (negsuc 52) ∷ loads (pos 6) ∷ loads (pos 5)
     ∷ loads (pos 0xF6C4) ∷ leaves (0xB0 ∷ 0x0C ∷ 0 ∷ []) ∷ leaves (0x0B ∷ 0xC0 ∷ 0 ∷ []) ∷ leaves (0xD0 ∷ []) ∷ []
-unfolding bitN ofBits tabulate bitAt fromBits position mirror row fromRow start spanBit inBounds within over spliced pieceFrom pieceUpto exponent weigh loadOf signedOf readAs bitsOf storeOf isSize isInteger moved copiedInside verdict spanCases fieldCases valueCases loadCases storeCases insideCases cases answer! after! answer after
+unfolding bitN ofBits tabulate bitAt fromBits position mirror row fromRow start spanBit inBounds within over spliced pieceFrom pieceUpto exponent weigh loadOf signedOf readAs bitsOf storeOf isSize isInteger moved copiedWithin verdict spanCases fieldCases valueCases loadCases storeCases withinCases cases answer! after! answer after
 sample-rows = refl

@@ -7,15 +7,15 @@ use rules::Span;
 pub fn run() {
     show::text(b"rows                                     | answer\n");
     copies();
-    combine(
+    boolean(
         b"B4 and four ones, Lsb0                   | ",
         Operation::And,
     );
-    combine(
+    boolean(
         b"B4 or four ones, Lsb0                    | ",
         Operation::Or,
     );
-    combine(
+    boolean(
         b"B4 xor four ones, Lsb0                   | ",
         Operation::Xor,
     );
@@ -48,7 +48,7 @@ fn at(order: Order, head: usize, len: usize) -> Span {
 
 fn copies() {
     let mut row = [0xB4u8];
-    inside8::copy_within(&mut row, at(Order::Lsb0, 0, 8), 0, 5, 2);
+    within8::copy_within(&mut row, at(Order::Lsb0, 0, 8), 0, 5, 2);
     show::text(b"B4, copy 5 bits from 0 to 2, Lsb0        | ");
     show::byte(row[0]);
     show::end();
@@ -80,7 +80,7 @@ fn copies() {
     show::end();
 }
 
-fn combine(name: &[u8], operation: Operation) {
+fn boolean(name: &[u8], operation: Operation) {
     let mut left = [0xB4u8];
     let right = [0x0Fu8];
     boolean8::boolean(

@@ -11,7 +11,7 @@ use rules::Verdict;
 use rules::Width;
 ghost use mathlib.Core.Bool.{_||_};
 ghost use Rattle.rules.specs.Fields.{whole};
-ghost use Rattle.rules.specs.Calls.{readBit, writeBit, load, store, strictStore, answer, after};
+ghost use Rattle.rules.specs.Calls.{readBit, writeBit, load, store, storeStrict, answer, after};
 ghost use Rattle.stableply.specs.Border.{spanOf, bitOf, significanceOf, signOf, numberOf, none, behind, Told, Wrote};
 
 // One bit of a span, as 0 or 1.
@@ -137,7 +137,7 @@ pub extern "C" fn stableply8_store_strict(
     below: u8,
     value: u64,
 ) -> u8
-    ensures { λ r. ⌜ Wrote (none order || (none significance || (none sign || none below))) (answer 8 (strictStore (spanOf order word head length) k (significanceOf significance) (signOf sign) (whole (numberOf below value))) (now (words .entry))) (after 8 (strictStore (spanOf order word head length) k (significanceOf significance) (signOf sign) (whole (numberOf below value))) (now (words .entry))) (now (words .entry)) r (now (words .exit)) ⌝ }
+    ensures { λ r. ⌜ Wrote (none order || (none significance || (none sign || none below))) (answer 8 (storeStrict (spanOf order word head length) k (significanceOf significance) (signOf sign) (whole (numberOf below value))) (now (words .entry))) (after 8 (storeStrict (spanOf order word head length) k (significanceOf significance) (signOf sign) (whole (numberOf below value))) (now (words .entry))) (now (words .entry)) r (now (words .exit)) ⌝ }
 {
     if 1 < order {
         return 255;
@@ -154,7 +154,7 @@ pub extern "C" fn stableply8_store_strict(
     let span = span_of(order, word, head, length);
     let named = sign_of(sign);
     let number = number_of(below, value);
-    let verdict = pieces::check_strict(Width::W8, words.len(), span, k, named, number);
+    let verdict = pieces::check_store_strict(Width::W8, words.len(), span, k, named, number);
     match verdict {
         Verdict::Refused(no) => no.number(),
         Verdict::Fine => stableply8_store(

@@ -4,7 +4,7 @@ use crate::codes::span_of;
 use crate::leaving::leave_equal;
 use crate::leaving::leave_write;
 ghost use mathlib.Core.Bool.{_||_};
-ghost use Rattle.rules.specs.Calls.{here, there, copyBetween, copyInside, combine, equal, answer, after, swapAnswer, swapLeft, swapRight};
+ghost use Rattle.rules.specs.Calls.{here, there, copyFrom, copyWithin, boolean, equal, answer, after, swapAnswer, swapLeft, swapRight};
 ghost use Rattle.stableply.specs.Border.{spanOf, none, noOperation, behind, Told, Wrote, Swapped};
 
 // Copies a span of another buffer, bit for bit.
@@ -21,7 +21,7 @@ pub extern "C" fn stableply8_copy_from(
     from_head: usize,
     from_length: usize,
 ) -> u8
-    ensures { λ r. ⌜ Wrote (none order || none «from_order») (answer 8 (copyBetween (spanOf order word head length) (now (source .entry)) (spanOf «from_order» «from_word» «from_head» «from_length»)) (now (words .entry))) (after 8 (copyBetween (spanOf order word head length) (now (source .entry)) (spanOf «from_order» «from_word» «from_head» «from_length»)) (now (words .entry))) (now (words .entry)) r (now (words .exit)) ⌝ }
+    ensures { λ r. ⌜ Wrote (none order || none «from_order») (answer 8 (copyFrom (spanOf order word head length) (now (source .entry)) (spanOf «from_order» «from_word» «from_head» «from_length»)) (now (words .entry))) (after 8 (copyFrom (spanOf order word head length) (now (source .entry)) (spanOf «from_order» «from_word» «from_head» «from_length»)) (now (words .entry))) (now (words .entry)) r (now (words .exit)) ⌝ }
 {
     if 1 < order {
         return 255;
@@ -46,13 +46,13 @@ pub extern "C" fn stableply8_copy_within(
     count: usize,
     destination: usize,
 ) -> u8
-    ensures { λ r. ⌜ Wrote (none order) (answer 8 (copyInside (spanOf order word head length) start count destination) (now (words .entry))) (after 8 (copyInside (spanOf order word head length) start count destination) (now (words .entry))) (now (words .entry)) r (now (words .exit)) ⌝ }
+    ensures { λ r. ⌜ Wrote (none order) (answer 8 (copyWithin (spanOf order word head length) start count destination) (now (words .entry))) (after 8 (copyWithin (spanOf order word head length) start count destination) (now (words .entry))) (now (words .entry)) r (now (words .exit)) ⌝ }
 {
     if 1 < order {
         return 255;
     }
     let span = span_of(order, word, head, length);
-    leave_write(inside8::copy_within(words, span, start, count, destination))
+    leave_write(within8::copy_within(words, span, start, count, destination))
 }
 
 // Combines a span with a right side, into the span. The operation is its truth table's number: and 8, or 14, xor 6.
@@ -70,7 +70,7 @@ pub extern "C" fn stableply8_boolean(
     right_length: usize,
     operation: u8,
 ) -> u8
-    ensures { λ r. ⌜ Wrote (none order || (none «right_order» || noOperation operation)) (answer 8 (combine operation (spanOf order word head length) (now (right .entry)) (spanOf «right_order» «right_word» «right_head» «right_length»)) (now (words .entry))) (after 8 (combine operation (spanOf order word head length) (now (right .entry)) (spanOf «right_order» «right_word» «right_head» «right_length»)) (now (words .entry))) (now (words .entry)) r (now (words .exit)) ⌝ }
+    ensures { λ r. ⌜ Wrote (none order || (none «right_order» || noOperation operation)) (answer 8 (boolean operation (spanOf order word head length) (now (right .entry)) (spanOf «right_order» «right_word» «right_head» «right_length»)) (now (words .entry))) (after 8 (boolean operation (spanOf order word head length) (now (right .entry)) (spanOf «right_order» «right_word» «right_head» «right_length»)) (now (words .entry))) (now (words .entry)) r (now (words .exit)) ⌝ }
 {
     if 1 < order {
         return 255;

@@ -15,8 +15,7 @@ ghost use Prim.Native.Nat.{ℕ, _+_, _*_, _%_, _≤_, _<_};
 ghost use lib.ListN.{length, getD};
 ghost use Rattle.rules.specs.declared.Order.{Order};
 ghost use Rattle.rules.specs.Positions.{row, spliced};
-ghost use Rattle.rules.specs.Calls.{swapAnswer, swapLeft, swapRight};
-ghost use Rattle.rules.specs.Answers.{writeSays};
+ghost use Rattle.rules.specs.Answers.{writeSays, Swaps};
 
 // n bits, exchanged.
 fn block(
@@ -144,7 +143,7 @@ fn swap_row(left: &mut [u64], order: Order, d: usize, right: &mut [u64], s: usiz
 
 // Each side gets the other's old bits, lengths equal: 1 to 3 of the left, 1 to 3 of the right, 6, 7.
 pub fn swap(left: &mut [u64], left_span: Span, right: &mut [u64], right_span: Span) -> WriteAnswer
-    ensures { λ r. ⌜ (writeSays r ≡ swapAnswer 64 (now (left .entry)) «left_span» (now (right .entry)) «right_span») × (now (left .exit) ≡ swapLeft 64 (now (left .entry)) «left_span» (now (right .entry)) «right_span») × (now (right .exit) ≡ swapRight 64 (now (left .entry)) «left_span» (now (right .entry)) «right_span») ⌝ }
+    ensures { λ r. ⌜ Swaps 64 (now (left .entry)) «left_span» (now (right .entry)) «right_span» (writeSays r) (now (left .exit)) (now (right .exit)) ⌝ }
 {
     let verdict = check_copy(Width::W64, left.len(), left_span, right.len(), right_span);
     match verdict {

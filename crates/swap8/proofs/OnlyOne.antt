@@ -6,4 +6,4 @@ use Rattle.swap8.proofs.swap.Reads as swap
 
 swap-only : (κs : _) (a : _) (r r′ : _) (x x′ : _) → swap.Post κs a r x → swap.Post κs a r′ x′
     → (r ≡ r′) × (now (x .0) ≡ now (x′ .0)) × (now (x .1 .1 .0) ≡ now (x′ .1 .1 .0))
-swap-only κs a r r′ x x′ p q = (one-write r r′ (p .0 ∙ sym (q .0)), p .1 ∙ sym (q .1), p .2 ∙ sym (q .2))
+swap-only κs a r r′ x x′ p q = (one-write r r′ (p .answers ∙ sym (q .answers)), p .holds-left ∙ sym (q .holds-left), p .holds-right ∙ sym (q .holds-right))

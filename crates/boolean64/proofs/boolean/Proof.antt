@@ -11,7 +11,7 @@ use Rattle.rules.specs.Positions.{row}
 use Rattle.rules.specs.Refusals.{verdict, pairCases}
 use Rattle.rules.proofs.Combine.{until, until-in, until-out, combined-short}
 use Rattle.rules.proofs.Accepted.{Pair, fine-pair}
-use Rattle.rules.proofs.RowCalls.{combine-refused, combine-done}
+use Rattle.rules.proofs.RowCalls.{boolean-refused, boolean-done}
 use Rattle.boolean64.proofs.boolean.Statement.{statement}
 use Rattle.boolean64.proofs.boolean.Tie as tie
 use Rattle.rules.proofs.OneAnswer.{judged}
@@ -59,7 +59,7 @@ rest-requires : tie.Need-rest-requires
 rest-requires c κs = let h = held (c .before .before .before .before .before .before .before .before .before .before) in let l = h .left in let r = h .right in omega arith
 
 returns : tie.Need-returns
-returns c = combine-refused 64 (lit< tt) _ _ _ _ _ _ (sym (judged (c .before .before .before .check-pair .ensures)) ∙ c .before .verdict .given .1) refl
+returns c = boolean-refused 64 (lit< tt) _ _ _ _ _ _ (sym (judged (c .before .before .before .check-pair .ensures)) ∙ c .before .verdict .given .1) refl
 
 same-length : tie.Need-same-length
 same-length c = search needs
@@ -75,7 +75,7 @@ returns-2 c =
     let l = h .left in
     let d = a .span .word * 64 + a .span .head .0 in
     let from : ℕ → ℕ = λ i. row 64 (a .span .order) (now (a .right)) (a .right-span .word * 64 + a .right-span .head .0 + i) in
-    combine-done 64 (lit< tt) (a .operation) (now (a .words)) (a .span) (now (a .right)) (a .right-span) (until (a .right-span .len) from) (fine told)
+    boolean-done 64 (lit< tt) (a .operation) (now (a .words)) (a .span) (now (a .right)) (a .right-span) (until (a .right-span .len) from) (fine told)
     (combined-short 64 (lit< tt) (a .span .order) (now (a .words)) d (a .operation) (a .span .len) (a .right-span .len) (at-least .least .result) from (at-least .least .ensures) (omega arith)
     (main .between .ensures) (rest .rest .ensures))
     (until-in (a .right-span .len) from) (until-out (a .right-span .len) from)

@@ -7,21 +7,21 @@ use denote.Ref.{now}
 use Rattle.rules.specs.declared.Verdict.the-variants.{Fine}
 use Rattle.rules.specs.Positions.{start}
 use Rattle.rules.specs.Fields.{whole}
-use Rattle.rules.specs.Refusals.{verdict, strictCases}
+use Rattle.rules.specs.Refusals.{verdict, storeStrictCases}
 use Rattle.rules.proofs.Accepted.{Strict, fine-strict}
 use Rattle.rules.proofs.FieldCalls.{strict-refused, strict-done}
 use Rattle.field64.proofs.store_strict.Statement.{statement}
 use Rattle.field64.proofs.store_strict.Tie as tie
 use Rattle.rules.proofs.OneAnswer.{judged}
 
-fine : (c : tie.After-enum-told) → (let a = c .before .before .before .before .args in verdict (strictCases 64 (length (now (a .words))) (a .span) (a .k) (a .sign) (whole (a .value))) ≡ Fine)
-fine c = sym (judged (c .before .before .check-strict .ensures)) ∙ c .enum-told .given .1
+fine : (c : tie.After-enum-told) → (let a = c .before .before .before .before .args in verdict (storeStrictCases 64 (length (now (a .words))) (a .span) (a .k) (a .sign) (whole (a .value))) ≡ Fine)
+fine c = sym (judged (c .before .before .check-store-strict .ensures)) ∙ c .enum-told .given .1
 
 held : (c : tie.After-enum-told) → (let a = c .before .before .before .before .args in Strict 64 (length (now (a .words))) (a .span) (a .k) (a .sign) (whole (a .value)))
 held c = fine-strict 64 _ _ _ _ _ (fine c)
 
-check-strict-requires : tie.Need-check-strict-requires
-check-strict-requires c κs = search needs
+check-store-strict-requires : tie.Need-check-store-strict-requires
+check-store-strict-requires c κs = search needs
 
 enum-known-verdict : tie.Need-enum-known-verdict
 enum-known-verdict c = search needs
@@ -36,7 +36,7 @@ store-by-requires : tie.Need-store-by-requires
 store-by-requires c κs = let h = held (c .before .before) in let i = h .lies in let z = h .fitted .valued .sized in (i .starts, omega arith, omega arith, i .ends)
 
 returns : tie.Need-returns
-returns c = strict-refused 64 _ _ _ _ _ _ (sym (judged (c .before .before .before .check-strict .ensures)) ∙ c .before .verdict .given .1) refl
+returns c = strict-refused 64 _ _ _ _ _ _ (sym (judged (c .before .before .before .check-store-strict .ensures)) ∙ c .before .verdict .given .1) refl
 
 same-length : tie.Need-same-length
 same-length c = search needs
@@ -51,7 +51,7 @@ pub store-strict-spec : {M : Type 1} → statement M
 store-strict-spec =
     tie.close
     (tie.spec
-    check-strict-requires
+    check-store-strict-requires
     enum-known-verdict
     enum-told
     bits-requires

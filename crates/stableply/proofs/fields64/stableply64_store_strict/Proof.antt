@@ -8,7 +8,7 @@ use denote.Ref.{now}
 use Rattle.rules.specs.declared.Verdict.{Verdict}
 use Rattle.rules.specs.declared.Verdict.the-variants.{Fine}
 use Rattle.rules.specs.Fields.{whole}
-use Rattle.rules.specs.Refusals.{verdict, strictCases}
+use Rattle.rules.specs.Refusals.{verdict, storeStrictCases}
 use Rattle.rules.proofs.FieldCalls.{strict-refused, strict-by-store}
 use Rattle.stableply.specs.Border.{spanOf, significanceOf, signOf, numberOf, none}
 use Rattle.stableply.proofs.Naming.{first-none, later-none, all-named}
@@ -18,12 +18,12 @@ use Rattle.stableply.proofs.fields64.stableply64_store_strict.Tie as ti
 use Rattle.rules.proofs.OneAnswer.{judged}
 
 -- the verdict on the arguments as they are named
-checked : (c : tie.After-check-strict) → (let a = c .before .before .before .before .before .before .before .before .before .args in
-    c .check-strict .result ≡ verdict (strictCases 64 (length (now (a .words))) (spanOf (a .order) (a .word) (a .head) (a .length)) (a .k) (signOf (a .sign)) (whole (numberOf (a .below) (a .value)))))
-checked c = rw (c .before .before .before .span-of .ensures, c .before .before .sign-of .ensures, c .before .number-of .ensures) at (judged (c .check-strict .ensures))
+checked : (c : tie.After-check-store-strict) → (let a = c .before .before .before .before .before .before .before .before .before .args in
+    c .check-store-strict .result ≡ verdict (storeStrictCases 64 (length (now (a .words))) (spanOf (a .order) (a .word) (a .head) (a .length)) (a .k) (signOf (a .sign)) (whole (numberOf (a .below) (a .value)))))
+checked c = rw (c .before .before .before .span-of .ensures, c .before .before .sign-of .ensures, c .before .number-of .ensures) at (judged (c .check-store-strict .ensures))
 
 -- the codes name something
-named : (c : tie.After-check-strict) → (let a = c .before .before .before .before .before .before .before .before .before .args in
+named : (c : tie.After-check-store-strict) → (let a = c .before .before .before .before .before .before .before .before .before .args in
     (none (a .order) || (none (a .significance) || (none (a .sign) || none (a .below)))) ≡ false)
 named c = let d = c .before .before .before .before in
     all-named _ _ (d .before .before .before .if1 .left) (all-named _ _ (d .before .before .if2 .left) (all-named _ _ (d .before .if3 .left) (le-ltb _ _ (d .if4 .left))))
@@ -49,8 +49,8 @@ sign-of-requires c κs = search needs
 number-of-requires : tie.Need-number-of-requires
 number-of-requires c κs = search needs
 
-check-strict-requires : tie.Need-check-strict-requires
-check-strict-requires c κs = search needs
+check-store-strict-requires : tie.Need-check-store-strict-requires
+check-store-strict-requires c κs = search needs
 
 enum-known-verdict : tie.Need-enum-known-verdict
 enum-known-verdict c = search needs
@@ -92,7 +92,7 @@ stableply64-store-strict-spec =
     span-of-requires
     sign-of-requires
     number-of-requires
-    check-strict-requires
+    check-store-strict-requires
     enum-known-verdict
     number-requires
     enum-told
