@@ -6,6 +6,9 @@ use rules::Span;
 use rules::Verdict;
 use rules::Width;
 use rules::WriteAnswer;
+use word64::ONES;
+use word64::W;
+use word64::Word;
 use word64::fetch;
 use word64::joined;
 use word64::lead;
@@ -14,6 +17,7 @@ use word64::put;
 ghost use mathlib.Core.Path.{_≡_};
 ghost use Prim.Native.Nat.{ℕ, _+_, _-_, _*_, _/_, _%_, _≤_, _<_};
 ghost use lib.ListN.{length, getD};
+ghost use Rattle.word64.specs.Width.{W};
 ghost use Rattle.rules.specs.Bits.{bitN};
 ghost use Rattle.rules.specs.Positions.{position, row, spliced};
 ghost use Rattle.rules.specs.Rows.{applied};
@@ -24,25 +28,25 @@ ghost use Rattle.rules.proofs.Merged.{selected};
 ghost use Rattle.rules.proofs.Combine.{wordwise, spreadOf};
 
 // All ones where bit k of the operation's number is one, else all zeros.
-fn spread(operation: u8, k: u8) -> u64
+fn spread(operation: u8, k: u8) -> Word
     requires { ⌜ k < 8 ⌝ }
-    ensures { λ r. ⌜ r ≡ spreadOf 64 (bitN operation k) ⌝ }
+    ensures { λ r. ⌜ r ≡ spreadOf W (bitN operation k) ⌝ }
 {
     let bit = (operation >> k) % 2;
-    let ones = 0xffff_ffff_ffff_ffffu64;
+    let ones = ONES;
     if bit == 0 { 0 } else { ones }
 }
 
 // The bits of v where those of x are ones, else those of u.
-fn choose(x: u64, u: u64, v: u64) -> u64
+fn choose(x: Word, u: Word, v: Word) -> Word
     ensures { λ r. ⌜ r ≡ selected x u v ⌝ }
 {
     u ^ ((u ^ v) & x)
 }
 
 // Any operation on two words, by its truth table.
-fn table(operation: u8, a: u64, b: u64) -> u64
-    ensures { λ r. ⌜ r ≡ wordwise 64 operation a b ⌝ }
+fn table(operation: u8, a: Word, b: Word) -> Word
+    ensures { λ r. ⌜ r ≡ wordwise W operation a b ⌝ }
 {
     let t0 = spread(operation, 0);
     let t1 = spread(operation, 1);
@@ -54,8 +58,8 @@ fn table(operation: u8, a: u64, b: u64) -> u64
 }
 
 // The operation on two words: and, or, xor, and by the truth table any other.
-fn apply(operation: u8, a: u64, b: u64) -> u64
-    ensures { λ r. ⌜ r ≡ wordwise 64 operation a b ⌝ }
+fn apply(operation: u8, a: Word, b: Word) -> Word
+    ensures { λ r. ⌜ r ≡ wordwise W operation a b ⌝ }
 {
     match operation {
         8 => a & b,
@@ -66,9 +70,9 @@ fn apply(operation: u8, a: u64, b: u64) -> u64
 }
 
 // Whole words with those of the right side as they stand.
-fn plain_words(words: &mut [u64], operation: u8, right: &[u64])
+fn plain_words(words: &mut [Word], operation: u8, right: &[Word])
     requires { ⌜ length (now words) ≤ length (now right) ⌝ }
-    ensures { λ _. ⌜ ((k : ℕ) → k < length (now (words .entry)) → getD (now (words .exit)) k 0 ≡ wordwise 64 operation (getD (now (words .entry)) k 0) (getD (now (right .entry)) k 0)) ⌝ }
+    ensures { λ _. ⌜ ((k : ℕ) → k < length (now (words .entry)) → getD (now (words .exit)) k 0 ≡ wordwise W operation (getD (now (words .entry)) k 0) (getD (now (right .entry)) k 0)) ⌝ }
 {
     let mut i: usize = 0;
     while i < words.len() {
@@ -78,9 +82,9 @@ fn plain_words(words: &mut [u64], operation: u8, right: &[u64])
 }
 
 // The same, with a loop of its own for each of and, or and xor.
-fn plain_cases(words: &mut [u64], operation: u8, right: &[u64])
+fn plain_cases(words: &mut [Word], operation: u8, right: &[Word])
     requires { ⌜ length (now words) ≤ length (now right) ⌝ }
-    ensures { λ _. ⌜ ((k : ℕ) → k < length (now (words .entry)) → getD (now (words .exit)) k 0 ≡ wordwise 64 operation (getD (now (words .entry)) k 0) (getD (now (right .entry)) k 0)) ⌝ }
+    ensures { λ _. ⌜ ((k : ℕ) → k < length (now (words .entry)) → getD (now (words .exit)) k 0 ≡ wordwise W operation (getD (now (words .entry)) k 0) (getD (now (right .entry)) k 0)) ⌝ }
 {
     match operation {
         8 => {
@@ -99,9 +103,9 @@ fn plain_cases(words: &mut [u64], operation: u8, right: &[u64])
 }
 
 // Whole words with those of the right side at a head.
-fn funnel_words(words: &mut [u64], order: Order, operation: u8, right: &[u64], head: Index)
-    requires { ⌜ (1 ≤ head .0) × (head .0 < 64) × (length (now words) + 1 ≤ length (now right)) ⌝ }
-    ensures { λ _. ⌜ ((k : ℕ) → k < length (now (words .entry)) → getD (now (words .exit)) k 0 ≡ wordwise 64 operation (getD (now (words .entry)) k 0) (funneled 64 order (head .0) (getD (now (right .entry)) k 0) (getD (now (right .entry)) (k + 1) 0))) ⌝ }
+fn funnel_words(words: &mut [Word], order: Order, operation: u8, right: &[Word], head: Index)
+    requires { ⌜ (1 ≤ head .0) × (head .0 < W) × (length (now words) + 1 ≤ length (now right)) ⌝ }
+    ensures { λ _. ⌜ ((k : ℕ) → k < length (now (words .entry)) → getD (now (words .exit)) k 0 ≡ wordwise W operation (getD (now (words .entry)) k 0) (funneled W order (head .0) (getD (now (right .entry)) k 0) (getD (now (right .entry)) (k + 1) 0))) ⌝ }
 {
     let mut i: usize = 0;
     while i < words.len() {
@@ -112,9 +116,9 @@ fn funnel_words(words: &mut [u64], order: Order, operation: u8, right: &[u64], h
 }
 
 // The same, with a loop of its own for each of and, or and xor.
-fn funnel_cases(words: &mut [u64], order: Order, operation: u8, right: &[u64], head: Index)
-    requires { ⌜ (1 ≤ head .0) × (head .0 < 64) × (length (now words) + 1 ≤ length (now right)) ⌝ }
-    ensures { λ _. ⌜ ((k : ℕ) → k < length (now (words .entry)) → getD (now (words .exit)) k 0 ≡ wordwise 64 operation (getD (now (words .entry)) k 0) (funneled 64 order (head .0) (getD (now (right .entry)) k 0) (getD (now (right .entry)) (k + 1) 0))) ⌝ }
+fn funnel_cases(words: &mut [Word], order: Order, operation: u8, right: &[Word], head: Index)
+    requires { ⌜ (1 ≤ head .0) × (head .0 < W) × (length (now words) + 1 ≤ length (now right)) ⌝ }
+    ensures { λ _. ⌜ ((k : ℕ) → k < length (now (words .entry)) → getD (now (words .exit)) k 0 ≡ wordwise W operation (getD (now (words .entry)) k 0) (funneled W order (head .0) (getD (now (right .entry)) k 0) (getD (now (right .entry)) (k + 1) 0))) ⌝ }
 {
     match operation {
         8 => {
@@ -133,8 +137,8 @@ fn funnel_cases(words: &mut [u64], order: Order, operation: u8, right: &[u64], h
 }
 
 // Whole words where the right side has ended.
-fn rest_words(words: &mut [u64], operation: u8)
-    ensures { λ _. ⌜ ((k : ℕ) → k < length (now (words .entry)) → getD (now (words .exit)) k 0 ≡ wordwise 64 operation (getD (now (words .entry)) k 0) 0) ⌝ }
+fn rest_words(words: &mut [Word], operation: u8)
+    ensures { λ _. ⌜ ((k : ℕ) → k < length (now (words .entry)) → getD (now (words .exit)) k 0 ≡ wordwise W operation (getD (now (words .entry)) k 0) 0) ⌝ }
 {
     let mut i: usize = 0;
     while i < words.len() {
@@ -145,24 +149,24 @@ fn rest_words(words: &mut [u64], operation: u8)
 
 // k whole words from place d on, lent on as a part.
 fn whole_words(
-    words: &mut [u64],
+    words: &mut [Word],
     order: Order,
     d: usize,
     k: usize,
     operation: u8,
-    right: &[u64],
+    right: &[Word],
     s: usize,
 )
-    requires { ⌜ (1 ≤ k → d % 64 ≡ 0) × (d + k * 64 ≤ length (now words) * 64) × (s + k * 64 ≤ length (now right) * 64) × (length (now right) ≤ 65536) ⌝ }
-    ensures { λ _. ⌜ now (words .exit) ≡ spliced 64 order (now (words .entry)) d (k * 64) (λ i. applied operation (row 64 order (now (words .entry)) (d + i)) (row 64 order (now (right .entry)) (s + i))) ⌝ }
+    requires { ⌜ (1 ≤ k → d % W ≡ 0) × (d + k * W ≤ length (now words) * W) × (s + k * W ≤ length (now right) * W) × (length (now right) ≤ 65536) ⌝ }
+    ensures { λ _. ⌜ now (words .exit) ≡ spliced W order (now (words .entry)) d (k * W) (λ i. applied operation (row W order (now (words .entry)) (d + i)) (row W order (now (right .entry)) (s + i))) ⌝ }
 {
     if k == 0 {
         return;
     }
-    let a = d / 64;
+    let a = d / W;
     let e = a + k;
-    let b = s / 64;
-    let h = s % 64;
+    let b = s / W;
+    let h = s % W;
     if h == 0 {
         let f = b + k;
         plain_cases(&mut words[a..e], operation, &right[b..f]);
@@ -173,38 +177,38 @@ fn whole_words(
 }
 
 // n bits within one word; v has the right side's bits at the same indexes.
-fn piece(words: &mut [u64], order: Order, d: usize, n: usize, operation: u8, v: u64)
-    requires { ⌜ (1 ≤ n) × (d % 64 + n ≤ 64) × (d + n ≤ length (now words) * 64) ⌝ }
-    ensures { λ _. ⌜ now (words .exit) ≡ spliced 64 order (now (words .entry)) d n (λ i. applied operation (row 64 order (now (words .entry)) (d + i)) (bitN v (position 64 order (d % 64 + i)))) ⌝ }
+fn piece(words: &mut [Word], order: Order, d: usize, n: usize, operation: u8, v: Word)
+    requires { ⌜ (1 ≤ n) × (d % W + n ≤ W) × (d + n ≤ length (now words) * W) ⌝ }
+    ensures { λ _. ⌜ now (words .exit) ≡ spliced W order (now (words .entry)) d n (λ i. applied operation (row W order (now (words .entry)) (d + i)) (bitN v (position W order (d % W + i)))) ⌝ }
 {
-    let word = d / 64;
+    let word = d / W;
     let x = apply(operation, words[word], v);
     put(words, order, d, n, x);
 }
 
 // The first piece: n bits within one word, with those of the right side, and with code of its own for each order.
 fn first_piece(
-    words: &mut [u64],
+    words: &mut [Word],
     order: Order,
     d: usize,
     n: usize,
     operation: u8,
-    right: &[u64],
+    right: &[Word],
     s: usize,
 )
-    requires { ⌜ (d % 64 + n ≤ 64) × (d + n ≤ length (now words) * 64) × (s + n ≤ length (now right) * 64) ⌝ }
-    ensures { λ _. ⌜ now (words .exit) ≡ spliced 64 order (now (words .entry)) d n (λ i. applied operation (row 64 order (now (words .entry)) (d + i)) (row 64 order (now (right .entry)) (s + i))) ⌝ }
+    requires { ⌜ (d % W + n ≤ W) × (d + n ≤ length (now words) * W) × (s + n ≤ length (now right) * W) ⌝ }
+    ensures { λ _. ⌜ now (words .exit) ≡ spliced W order (now (words .entry)) d n (λ i. applied operation (row W order (now (words .entry)) (d + i)) (row W order (now (right .entry)) (s + i))) ⌝ }
 {
     if n == 0 {
         return;
     }
     match order {
         Order::Lsb0 => {
-            let v = fetch(right, Order::Lsb0, s, Index(d % 64), n);
+            let v = fetch(right, Order::Lsb0, s, Index(d % W), n);
             piece(words, Order::Lsb0, d, n, operation, v);
         }
         Order::Msb0 => {
-            let v = fetch(right, Order::Msb0, s, Index(d % 64), n);
+            let v = fetch(right, Order::Msb0, s, Index(d % W), n);
             piece(words, Order::Msb0, d, n, operation, v);
         }
     }
@@ -212,28 +216,28 @@ fn first_piece(
 
 // The last piece: n bits from a word's start on, with those of the right side.
 fn last_piece(
-    words: &mut [u64],
+    words: &mut [Word],
     order: Order,
     d: usize,
     n: usize,
     operation: u8,
-    right: &[u64],
+    right: &[Word],
     s: usize,
 )
-    requires { ⌜ (1 ≤ n → d % 64 ≡ 0) × (n ≤ 64) × (d + n ≤ length (now words) * 64) × (s + n ≤ length (now right) * 64) × (length (now words) ≤ 65536) ⌝ }
-    ensures { λ _. ⌜ now (words .exit) ≡ spliced 64 order (now (words .entry)) d n (λ i. applied operation (row 64 order (now (words .entry)) (d + i)) (row 64 order (now (right .entry)) (s + i))) ⌝ }
+    requires { ⌜ (1 ≤ n → d % W ≡ 0) × (n ≤ W) × (d + n ≤ length (now words) * W) × (s + n ≤ length (now right) * W) × (length (now words) ≤ 65536) ⌝ }
+    ensures { λ _. ⌜ now (words .exit) ≡ spliced W order (now (words .entry)) d n (λ i. applied operation (row W order (now (words .entry)) (d + i)) (row W order (now (right .entry)) (s + i))) ⌝ }
 {
     if n == 0 {
         return;
     }
-    let at = d / 64 * 64;
+    let at = d / W * W;
     match order {
         Order::Lsb0 => {
-            let v = fetch(right, Order::Lsb0, s, Index(at % 64), n);
+            let v = fetch(right, Order::Lsb0, s, Index(at % W), n);
             piece(words, Order::Lsb0, at, n, operation, v);
         }
         Order::Msb0 => {
-            let v = fetch(right, Order::Msb0, s, Index(at % 64), n);
+            let v = fetch(right, Order::Msb0, s, Index(at % W), n);
             piece(words, Order::Msb0, at, n, operation, v);
         }
     }
@@ -241,22 +245,22 @@ fn last_piece(
 
 // len bits with as many of the right side.
 fn between(
-    words: &mut [u64],
+    words: &mut [Word],
     order: Order,
     d: usize,
     len: usize,
     operation: u8,
-    right: &[u64],
+    right: &[Word],
     s: usize,
 )
-    requires { ⌜ (d + len ≤ length (now words) * 64) × (s + len ≤ length (now right) * 64) × (length (now words) ≤ 65536) × (length (now right) ≤ 65536) ⌝ }
-    ensures { λ _. ⌜ now (words .exit) ≡ spliced 64 order (now (words .entry)) d len (λ i. applied operation (row 64 order (now (words .entry)) (d + i)) (row 64 order (now (right .entry)) (s + i))) ⌝ }
+    requires { ⌜ (d + len ≤ length (now words) * W) × (s + len ≤ length (now right) * W) × (length (now words) ≤ 65536) × (length (now right) ≤ 65536) ⌝ }
+    ensures { λ _. ⌜ now (words .exit) ≡ spliced W order (now (words .entry)) d len (λ i. applied operation (row W order (now (words .entry)) (d + i)) (row W order (now (right .entry)) (s + i))) ⌝ }
 {
     let first = lead(d, len);
     first_piece(words, order, d, first, operation, right, s);
-    let k = (len - first) / 64;
+    let k = (len - first) / W;
     whole_words(words, order, d + first, k, operation, right, s + first);
-    let most = first + k * 64;
+    let most = first + k * W;
     last_piece(
         words,
         order,
@@ -269,9 +273,9 @@ fn between(
 }
 
 // n bits within one word where the right side has ended.
-fn none_piece(words: &mut [u64], order: Order, d: usize, n: usize, operation: u8)
-    requires { ⌜ (d % 64 + n ≤ 64) × (d + n ≤ length (now words) * 64) ⌝ }
-    ensures { λ _. ⌜ now (words .exit) ≡ spliced 64 order (now (words .entry)) d n (λ i. applied operation (row 64 order (now (words .entry)) (d + i)) 0) ⌝ }
+fn none_piece(words: &mut [Word], order: Order, d: usize, n: usize, operation: u8)
+    requires { ⌜ (d % W + n ≤ W) × (d + n ≤ length (now words) * W) ⌝ }
+    ensures { λ _. ⌜ now (words .exit) ≡ spliced W order (now (words .entry)) d n (λ i. applied operation (row W order (now (words .entry)) (d + i)) 0) ⌝ }
 {
     if n == 0 {
         return;
@@ -280,43 +284,43 @@ fn none_piece(words: &mut [u64], order: Order, d: usize, n: usize, operation: u8
 }
 
 // k whole words from place d on where the right side has ended.
-fn rest_whole(words: &mut [u64], order: Order, d: usize, k: usize, operation: u8)
-    requires { ⌜ (1 ≤ k → d % 64 ≡ 0) × (d + k * 64 ≤ length (now words) * 64) ⌝ }
-    ensures { λ _. ⌜ now (words .exit) ≡ spliced 64 order (now (words .entry)) d (k * 64) (λ i. applied operation (row 64 order (now (words .entry)) (d + i)) 0) ⌝ }
+fn rest_whole(words: &mut [Word], order: Order, d: usize, k: usize, operation: u8)
+    requires { ⌜ (1 ≤ k → d % W ≡ 0) × (d + k * W ≤ length (now words) * W) ⌝ }
+    ensures { λ _. ⌜ now (words .exit) ≡ spliced W order (now (words .entry)) d (k * W) (λ i. applied operation (row W order (now (words .entry)) (d + i)) 0) ⌝ }
 {
     if k == 0 {
         return;
     }
-    let a = d / 64;
+    let a = d / W;
     let e = a + k;
     rest_words(&mut words[a..e], operation);
 }
 
 // len bits where the right side has ended.
-fn rest(words: &mut [u64], order: Order, d: usize, len: usize, operation: u8)
-    requires { ⌜ (d + len ≤ length (now words) * 64) × (length (now words) ≤ 65536) ⌝ }
-    ensures { λ _. ⌜ now (words .exit) ≡ spliced 64 order (now (words .entry)) d len (λ i. applied operation (row 64 order (now (words .entry)) (d + i)) 0) ⌝ }
+fn rest(words: &mut [Word], order: Order, d: usize, len: usize, operation: u8)
+    requires { ⌜ (d + len ≤ length (now words) * W) × (length (now words) ≤ 65536) ⌝ }
+    ensures { λ _. ⌜ now (words .exit) ≡ spliced W order (now (words .entry)) d len (λ i. applied operation (row W order (now (words .entry)) (d + i)) 0) ⌝ }
 {
     if len == 0 {
         return;
     }
     let first = lead(d, len);
     none_piece(words, order, d, first, operation);
-    let k = (len - first) / 64;
+    let k = (len - first) / W;
     rest_whole(words, order, d + first, k, operation);
-    let most = first + k * 64;
+    let most = first + k * W;
     none_piece(words, order, d + most, len - most, operation);
 }
 
 // The operation into the left span; right bits past its end count as false: 1 to 3 of the left, 1 to 3 of the right, 6.
 pub fn boolean(
-    words: &mut [u64],
+    words: &mut [Word],
     span: Span,
-    right: &[u64],
+    right: &[Word],
     right_span: Span,
     operation: u8,
 ) -> WriteAnswer
-    ensures { λ r. ⌜ Gives 64 (boolean operation span (now (right .entry)) «right_span») (now (words .entry)) (writeSays r) (now (words .exit)) ⌝ }
+    ensures { λ r. ⌜ Gives W (boolean operation span (now (right .entry)) «right_span») (now (words .entry)) (writeSays r) (now (words .exit)) ⌝ }
 {
     let verdict = check_pair(Width::W64, words.len(), span, right.len(), right_span);
     match verdict {
@@ -324,8 +328,8 @@ pub fn boolean(
         Verdict::Fine => {
             let order = span.order;
             let len = span.len;
-            let d = span.word * 64 + span.head.0;
-            let s = right_span.word * 64 + right_span.head.0;
+            let d = span.word * W + span.head.0;
+            let s = right_span.word * W + right_span.head.0;
             let m = least(len, right_span.len);
             between(words, order, d, m, operation, right, s);
             rest(words, order, d + m, len - m, operation);

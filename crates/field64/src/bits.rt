@@ -7,45 +7,48 @@ use pieces::Cut;
 use rules::Index;
 use rules::Order;
 use rules::Significance;
+use word64::W;
+use word64::Word;
 ghost use mathlib.Core.Path.{_≡_};
 ghost use Prim.Native.Nat.{_+_, _*_, _^_, _<_, _≤_};
 ghost use lib.ListN.{length};
+ghost use Rattle.word64.specs.Width.{W};
 ghost use Rattle.rules.specs.Fields.{loadOf, storeOf};
 ghost use Rattle.rules.proofs.Chunks.{chunk};
 
 // The number that `whole` words from word `start` on are with `last` bits of the word after them.
 fn load_rest(
-    words: &[u64],
+    words: &[Word],
     order: Order,
     significance: Significance,
     start: usize,
     whole: usize,
     last: usize,
 ) -> u64
-    requires { ⌜ (last < 64) × (whole * 64 + last ≤ 63) × (start * 64 + (whole * 64 + last) ≤ length (now words) * 64) ⌝ }
-    ensures { λ r. ⌜ (r ≡ loadOf 64 order significance (now (words .entry)) (start * 64) (whole * 64 + last)) × (r < 2 ^ (whole * 64 + last)) ⌝ }
+    requires { ⌜ (last < W) × (whole * W + last ≤ 63) × (start * W + (whole * W + last) ≤ length (now words) * W) ⌝ }
+    ensures { λ r. ⌜ (r ≡ loadOf W order significance (now (words .entry)) (start * W) (whole * W + last)) × (r < 2 ^ (whole * W + last)) ⌝ }
 {
     let a = load_middle(words, significance, start, whole);
     if last == 0 {
         return a;
     }
     let b = piece_at(words, order, start + whole, Index(0), last);
-    pieces::join(significance, a, whole * 64, b, last)
+    pieces::join(significance, a, whole * W, b, last)
 }
 
 // The number that the bits of a field of more than one piece are, from index `head` of a word on.
 pub fn load_bits(
-    words: &[u64],
+    words: &[Word],
     order: Order,
     significance: Significance,
     word: usize,
     head: Index,
     len: usize,
 ) -> u64
-    requires { ⌜ (head .0 < 64) × (64 < head .0 + len) × (len ≤ chunk) × (word * 64 + head .0 + len ≤ length (now words) * 64) ⌝ }
-    ensures { λ r. ⌜ (r ≡ loadOf 64 order significance (now (words .entry)) (word * 64 + head .0) len) × (r < 2 ^ len) ⌝ }
+    requires { ⌜ (head .0 < W) × (W < head .0 + len) × (len ≤ chunk) × (word * W + head .0 + len ≤ length (now words) * W) ⌝ }
+    ensures { λ r. ⌜ (r ≡ loadOf W order significance (now (words .entry)) (word * W + head .0) len) × (r < 2 ^ len) ⌝ }
 {
-    let cut = Cut::across(64, head, len);
+    let cut = Cut::across(W, head, len);
     let first = cut.first;
     let whole = cut.whole;
     let last = cut.last;
@@ -56,7 +59,7 @@ pub fn load_bits(
 
 // The low bits of a number, placed in `whole` words from word `start` on and `last` bits of the word after them.
 fn store_rest(
-    words: &mut [u64],
+    words: &mut [Word],
     order: Order,
     significance: Significance,
     start: usize,
@@ -64,21 +67,21 @@ fn store_rest(
     last: usize,
     v: u64,
 )
-    requires { ⌜ (last < 64) × (whole * 64 + last ≤ 63) × (start * 64 + (whole * 64 + last) ≤ length (now words) * 64) ⌝ }
-    ensures { λ _. ⌜ now (words .exit) ≡ storeOf 64 order significance (now (words .entry)) (start * 64) (whole * 64 + last) v ⌝ }
+    requires { ⌜ (last < W) × (whole * W + last ≤ 63) × (start * W + (whole * W + last) ≤ length (now words) * W) ⌝ }
+    ensures { λ _. ⌜ now (words .exit) ≡ storeOf W order significance (now (words .entry)) (start * W) (whole * W + last) v ⌝ }
 {
     let a = pieces::first_of(significance, v, last);
     store_middle(words, significance, start, whole, a);
     if last == 0 {
         return;
     }
-    let b = pieces::rest_of(significance, v, whole * 64);
+    let b = pieces::rest_of(significance, v, whole * W);
     put_piece(words, order, start + whole, Index(0), last, b);
 }
 
 // The low bits of a number, placed in a field of more than one piece so that a load returns them. All other bits stay.
 pub fn store_bits(
-    words: &mut [u64],
+    words: &mut [Word],
     order: Order,
     significance: Significance,
     word: usize,
@@ -86,10 +89,10 @@ pub fn store_bits(
     len: usize,
     v: u64,
 )
-    requires { ⌜ (head .0 < 64) × (64 < head .0 + len) × (len ≤ chunk) × (word * 64 + head .0 + len ≤ length (now words) * 64) ⌝ }
-    ensures { λ _. ⌜ now (words .exit) ≡ storeOf 64 order significance (now (words .entry)) (word * 64 + head .0) len v ⌝ }
+    requires { ⌜ (head .0 < W) × (W < head .0 + len) × (len ≤ chunk) × (word * W + head .0 + len ≤ length (now words) * W) ⌝ }
+    ensures { λ _. ⌜ now (words .exit) ≡ storeOf W order significance (now (words .entry)) (word * W + head .0) len v ⌝ }
 {
-    let cut = Cut::across(64, head, len);
+    let cut = Cut::across(W, head, len);
     let first = cut.first;
     let whole = cut.whole;
     let last = cut.last;

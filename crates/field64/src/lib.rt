@@ -20,14 +20,17 @@ use rules::Span;
 use rules::Verdict;
 use rules::Width;
 use rules::WriteAnswer;
+use word64::W;
+use word64::Word;
 ghost use mathlib.Core.Path.{_≡_};
+ghost use Rattle.word64.specs.Width.{W};
 ghost use Rattle.rules.specs.Fields.{whole};
 ghost use Rattle.rules.specs.Calls.{readBit, writeBit, load as loadCall, store as storeCall, storeStrict, answer, after, digit};
 ghost use Rattle.rules.specs.Answers.{bitSays, numberSays, writeSays, Gives};
 
 // Bit `index` of a span; refusals 1 to 3 and 10.
-pub fn read_bit(words: &[u64], span: Span, index: usize) -> BitAnswer
-    ensures { λ r. ⌜ bitSays r ≡ answer 64 (readBit span index) (now (words .entry)) ⌝ }
+pub fn read_bit(words: &[Word], span: Span, index: usize) -> BitAnswer
+    ensures { λ r. ⌜ bitSays r ≡ answer W (readBit span index) (now (words .entry)) ⌝ }
 {
     let verdict = pieces::check_bit(Width::W64, words.len(), span, index);
     match verdict {
@@ -35,8 +38,8 @@ pub fn read_bit(words: &[u64], span: Span, index: usize) -> BitAnswer
         Verdict::Fine => {
             let order = span.order;
             let t = span.head.0 + index;
-            let word = span.word + t / 64;
-            let position = Index(t % 64).position(Width::W64, order);
+            let word = span.word + t / W;
+            let position = Index(t % W).position(Width::W64, order);
             let selector = position.select();
             let x = word_at(words, word);
             BitAnswer::Is(x & selector.0 != 0)
@@ -52,8 +55,8 @@ fn digit_of(bit: bool) -> u64
 }
 
 // Bit `index` of a span becomes `bit`, all others stay; refusals 1 to 3 and 10.
-pub fn write_bit(words: &mut [u64], span: Span, index: usize, bit: bool) -> WriteAnswer
-    ensures { λ r. ⌜ Gives 64 (writeBit span index bit) (now (words .entry)) (writeSays r) (now (words .exit)) ⌝ }
+pub fn write_bit(words: &mut [Word], span: Span, index: usize, bit: bool) -> WriteAnswer
+    ensures { λ r. ⌜ Gives W (writeBit span index bit) (now (words .entry)) (writeSays r) (now (words .exit)) ⌝ }
 {
     let verdict = pieces::check_bit(Width::W64, words.len(), span, index);
     match verdict {
@@ -61,9 +64,9 @@ pub fn write_bit(words: &mut [u64], span: Span, index: usize, bit: bool) -> Writ
         Verdict::Fine => {
             let order = span.order;
             let t = span.head.0 + index;
-            let word = span.word + t / 64;
+            let word = span.word + t / W;
             let value = digit_of(bit);
-            put_piece(words, order, word, Index(t % 64), 1, value);
+            put_piece(words, order, word, Index(t % W), 1, value);
             WriteAnswer::Done
         }
     }
@@ -71,13 +74,13 @@ pub fn write_bit(words: &mut [u64], span: Span, index: usize, bit: bool) -> Writ
 
 // The number that a field of 1 to K bits holds; refusals 1 to 5.
 pub fn load(
-    words: &[u64],
+    words: &[Word],
     span: Span,
     k: usize,
     significance: Significance,
     sign: Sign,
 ) -> NumberAnswer
-    ensures { λ r. ⌜ numberSays r ≡ answer 64 (loadCall span k significance sign) (now (words .entry)) ⌝ }
+    ensures { λ r. ⌜ numberSays r ≡ answer W (loadCall span k significance sign) (now (words .entry)) ⌝ }
 {
     let verdict = pieces::check_load(Width::W64, words.len(), span, k);
     match verdict {
@@ -93,14 +96,14 @@ pub fn load(
 
 // The low bits of a K-bit value, stored so that a load returns them; refusals 1 to 5 and 8.
 pub fn store(
-    words: &mut [u64],
+    words: &mut [Word],
     span: Span,
     k: usize,
     significance: Significance,
     sign: Sign,
     value: Number,
 ) -> WriteAnswer
-    ensures { λ r. ⌜ Gives 64 (storeCall span k significance sign (whole value)) (now (words .entry)) (writeSays r) (now (words .exit)) ⌝ }
+    ensures { λ r. ⌜ Gives W (storeCall span k significance sign (whole value)) (now (words .entry)) (writeSays r) (now (words .exit)) ⌝ }
 {
     let verdict = pieces::check_store(Width::W64, words.len(), span, k, sign, value);
     match verdict {
@@ -124,14 +127,14 @@ pub fn store(
 
 // The same of a value that fits the field; refusals 1 to 5, 8 and 9.
 pub fn store_strict(
-    words: &mut [u64],
+    words: &mut [Word],
     span: Span,
     k: usize,
     significance: Significance,
     sign: Sign,
     value: Number,
 ) -> WriteAnswer
-    ensures { λ r. ⌜ Gives 64 (storeStrict span k significance sign (whole value)) (now (words .entry)) (writeSays r) (now (words .exit)) ⌝ }
+    ensures { λ r. ⌜ Gives W (storeStrict span k significance sign (whole value)) (now (words .entry)) (writeSays r) (now (words .exit)) ⌝ }
 {
     let verdict = pieces::check_store_strict(Width::W64, words.len(), span, k, sign, value);
     match verdict {

@@ -9,25 +9,28 @@ use pieces::Cut;
 use rules::Index;
 use rules::Order;
 use rules::Significance;
+use word64::W;
+use word64::Word;
 ghost use mathlib.Core.Bool.{true};
 ghost use mathlib.Core.Path.{_≡_};
 ghost use Prim.Native.Nat.{_+_, _*_, _^_, _<_, _≤_};
 ghost use lib.ListN.{length};
+ghost use Rattle.word64.specs.Width.{W};
 ghost use Rattle.rules.specs.Fields.{loadOf, storeOf};
 ghost use Rattle.rules.proofs.Chunk.{own};
 ghost use Rattle.rules.proofs.Chunks.{chunk};
 
 // A load where the chunk is there.
 pub fn load_near(
-    words: &[u64],
+    words: &[Word],
     order: Order,
     significance: Significance,
     word: usize,
     head: Index,
     len: usize,
 ) -> u64
-    requires { ⌜ (head .0 < 64) × (1 ≤ len) × (len ≤ chunk) × (word * 64 + head .0 + len ≤ length (now words) * 64) × (word * 64 + chunk ≤ length (now words) * 64) × (significance ≡ own order) ⌝ }
-    ensures { λ r. ⌜ (r ≡ loadOf 64 order significance (now (words .entry)) (word * 64 + head .0) len) × (r < 2 ^ len) ⌝ }
+    requires { ⌜ (head .0 < W) × (1 ≤ len) × (len ≤ chunk) × (word * W + head .0 + len ≤ length (now words) * W) × (word * W + chunk ≤ length (now words) * W) × (significance ≡ own order) ⌝ }
+    ensures { λ r. ⌜ (r ≡ loadOf W order significance (now (words .entry)) (word * W + head .0) len) × (r < 2 ^ len) ⌝ }
 {
     let cut = Cut::of(CHUNK, head, len);
     let first = cut.first;
@@ -37,13 +40,13 @@ pub fn load_near(
     if first == len {
         return a;
     }
-    let b = piece_at(words, order, word + CHUNK / 64, Index(0), last);
+    let b = piece_at(words, order, word + CHUNK / W, Index(0), last);
     pieces::join(significance, a, first, b, last)
 }
 
 // A store where the chunk is there.
 pub fn store_near(
-    words: &mut [u64],
+    words: &mut [Word],
     order: Order,
     significance: Significance,
     word: usize,
@@ -51,8 +54,8 @@ pub fn store_near(
     len: usize,
     v: u64,
 )
-    requires { ⌜ (head .0 < 64) × (1 ≤ len) × (len ≤ chunk) × (word * 64 + head .0 + len ≤ length (now words) * 64) × (word * 64 + chunk ≤ length (now words) * 64) × (significance ≡ own order) ⌝ }
-    ensures { λ _. ⌜ now (words .exit) ≡ storeOf 64 order significance (now (words .entry)) (word * 64 + head .0) len v ⌝ }
+    requires { ⌜ (head .0 < W) × (1 ≤ len) × (len ≤ chunk) × (word * W + head .0 + len ≤ length (now words) * W) × (word * W + chunk ≤ length (now words) * W) × (significance ≡ own order) ⌝ }
+    ensures { λ _. ⌜ now (words .exit) ≡ storeOf W order significance (now (words .entry)) (word * W + head .0) len v ⌝ }
 {
     let cut = Cut::of(CHUNK, head, len);
     let first = cut.first;
@@ -65,14 +68,14 @@ pub fn store_near(
         return;
     }
     let b = pieces::rest_of(significance, v, first);
-    put_piece(words, order, word + CHUNK / 64, Index(0), last, b);
+    put_piece(words, order, word + CHUNK / W, Index(0), last, b);
 }
 
 // Whether a chunk pays, where so many words are left: where it is more than one word, and there.
 pub fn pays(room: usize) -> bool
-    ensures { λ r. ⌜ (r ≡ true → chunk ≤ room * 64) ⌝ }
+    ensures { λ r. ⌜ (r ≡ true → chunk ≤ room * W) ⌝ }
 {
-    let many = CHUNK / 64;
+    let many = CHUNK / W;
     if many == 1 {
         return false;
     }

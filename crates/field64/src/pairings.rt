@@ -10,25 +10,28 @@ use crate::parts::put_piece;
 use rules::Index;
 use rules::Order;
 use rules::Significance;
+use word64::W;
+use word64::Word;
 ghost use mathlib.Core.Path.{_≡_};
 ghost use Prim.Native.Nat.{_+_, _*_, _^_, _<_, _≤_};
 ghost use lib.ListN.{length};
+ghost use Rattle.word64.specs.Width.{W};
 ghost use Rattle.rules.specs.Fields.{loadOf, storeOf};
 ghost use Rattle.rules.proofs.Chunks.{chunk};
 
 // A load, by its pairing where it has more than one piece.
 pub fn load_by(
-    words: &[u64],
+    words: &[Word],
     order: Order,
     significance: Significance,
     word: usize,
     head: Index,
     len: usize,
 ) -> u64
-    requires { ⌜ (head .0 < 64) × (1 ≤ len) × (len ≤ chunk) × (word * 64 + head .0 + len ≤ length (now words) * 64) ⌝ }
-    ensures { λ r. ⌜ (r ≡ loadOf 64 order significance (now (words .entry)) (word * 64 + head .0) len) × (r < 2 ^ len) ⌝ }
+    requires { ⌜ (head .0 < W) × (1 ≤ len) × (len ≤ chunk) × (word * W + head .0 + len ≤ length (now words) * W) ⌝ }
+    ensures { λ r. ⌜ (r ≡ loadOf W order significance (now (words .entry)) (word * W + head .0) len) × (r < 2 ^ len) ⌝ }
 {
-    let one = pieces::ends_within(64, head, len);
+    let one = pieces::ends_within(W, head, len);
     if one {
         return piece_at(words, order, word, head, len);
     }
@@ -58,7 +61,7 @@ pub fn load_by(
 
 // A store, by its pairing where it has more than one piece.
 pub fn store_by(
-    words: &mut [u64],
+    words: &mut [Word],
     order: Order,
     significance: Significance,
     word: usize,
@@ -66,10 +69,10 @@ pub fn store_by(
     len: usize,
     v: u64,
 )
-    requires { ⌜ (head .0 < 64) × (1 ≤ len) × (len ≤ chunk) × (word * 64 + head .0 + len ≤ length (now words) * 64) ⌝ }
-    ensures { λ _. ⌜ now (words .exit) ≡ storeOf 64 order significance (now (words .entry)) (word * 64 + head .0) len v ⌝ }
+    requires { ⌜ (head .0 < W) × (1 ≤ len) × (len ≤ chunk) × (word * W + head .0 + len ≤ length (now words) * W) ⌝ }
+    ensures { λ _. ⌜ now (words .exit) ≡ storeOf W order significance (now (words .entry)) (word * W + head .0) len v ⌝ }
 {
-    let one = pieces::ends_within(64, head, len);
+    let one = pieces::ends_within(W, head, len);
     if one {
         put_piece(words, order, word, head, len, v);
         return;

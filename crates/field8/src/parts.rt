@@ -4,67 +4,70 @@ use crate::words::word_at;
 use rules::Index;
 use rules::Order;
 use rules::Significance;
+use word8::W;
+use word8::Word;
 ghost use mathlib.Core.Path.{_≡_};
 ghost use Prim.Native.Nat.{_+_, _-_, _*_, _%_, _^_, _<_, _≤_};
 ghost use lib.ListN.{length};
+ghost use Rattle.word8.specs.Width.{W};
 ghost use Rattle.rules.specs.declared.Order.{Order};
 ghost use Rattle.rules.specs.declared.Significance.{Significance};
 ghost use Rattle.rules.specs.Fields.{loadOf, storeOf};
 
 // The n bits of a word from index `head` on.
-pub fn piece_at(words: &[u8], order: Order, word: usize, head: Index, n: usize) -> u64
-    requires { ⌜ (1 ≤ n) × (head .0 + n ≤ 8) × (word < length (now words)) ⌝ }
-    ensures { λ r. ⌜ ((e : Significance) → r ≡ loadOf 8 order e (now (words .entry)) (word * 8 + head .0) n) × (r < 2 ^ n) ⌝ }
+pub fn piece_at(words: &[Word], order: Order, word: usize, head: Index, n: usize) -> u64
+    requires { ⌜ (1 ≤ n) × (head .0 + n ≤ W) × (word < length (now words)) ⌝ }
+    ensures { λ r. ⌜ ((e : Significance) → r ≡ loadOf W order e (now (words .entry)) (word * W + head .0) n) × (r < 2 ^ n) ⌝ }
 {
     let x = word_at(words, word);
-    pieces::piece(8, x, order, head, n)
+    pieces::piece(W, x, order, head, n)
 }
 
 // The low n bits of a number, put in place of the n bits of a word from index `head` on.
-pub fn put_piece(words: &mut [u8], order: Order, word: usize, head: Index, n: usize, v: u64)
-    requires { ⌜ (1 ≤ n) × (head .0 + n ≤ 8) × (word < length (now words)) ⌝ }
-    ensures { λ _. ⌜ ((e : Significance) → now (words .exit) ≡ storeOf 8 order e (now (words .entry)) (word * 8 + head .0) n v) ⌝ }
+pub fn put_piece(words: &mut [Word], order: Order, word: usize, head: Index, n: usize, v: u64)
+    requires { ⌜ (1 ≤ n) × (head .0 + n ≤ W) × (word < length (now words)) ⌝ }
+    ensures { λ _. ⌜ ((e : Significance) → now (words .exit) ≡ storeOf W order e (now (words .entry)) (word * W + head .0) n v) ⌝ }
 {
     let x = word_at(words, word);
-    let y = pieces::with_piece(8, x, order, head, n, v);
+    let y = pieces::with_piece(W, x, order, head, n, v);
     put_word(words, word, y);
 }
 
 // The number that whole words are.
-fn load_whole(part: &[u8], significance: Significance) -> u64
-    requires { ⌜ length (now part) * 8 ≤ 63 ⌝ }
-    ensures { λ r. ⌜ ((o : Order) → r ≡ loadOf 8 o significance (now (part .entry)) 0 (length (now (part .entry)) * 8)) ⌝ }
+fn load_whole(part: &[Word], significance: Significance) -> u64
+    requires { ⌜ length (now part) * W ≤ 63 ⌝ }
+    ensures { λ r. ⌜ ((o : Order) → r ≡ loadOf W o significance (now (part .entry)) 0 (length (now (part .entry)) * W)) ⌝ }
 {
     let n = part.len();
     let mut x: u64 = 0;
     let mut i: usize = 0;
     while i < n {
         let word = word_at(part, i);
-        x = pieces::join(significance, x, i * 8, word, 8);
+        x = pieces::join(significance, x, i * W, word, W);
         i = i + 1;
     }
     x
 }
 
 // Whole words made anew, of the bits of a number.
-fn store_whole(part: &mut [u8], significance: Significance, v: u64)
-    requires { ⌜ length (now part) * 8 ≤ 63 ⌝ }
-    ensures { λ _. ⌜ ((o : Order) → now (part .exit) ≡ storeOf 8 o significance (now (part .entry)) 0 (length (now (part .entry)) * 8) v) ⌝ }
+fn store_whole(part: &mut [Word], significance: Significance, v: u64)
+    requires { ⌜ length (now part) * W ≤ 63 ⌝ }
+    ensures { λ _. ⌜ ((o : Order) → now (part .exit) ≡ storeOf W o significance (now (part .entry)) 0 (length (now (part .entry)) * W) v) ⌝ }
 {
     let n = part.len();
     let mut i: usize = 0;
     while i < n {
-        let upper = pieces::first_of(significance, v, (n - 1 - i) * 8);
-        let word = pieces::rest_of(significance, upper, i * 8);
+        let upper = pieces::first_of(significance, v, (n - 1 - i) * W);
+        let word = pieces::rest_of(significance, upper, i * W);
         put_word(part, i, word);
         i = i + 1;
     }
 }
 
 // The number that `whole` words from word `start` on are.
-pub fn load_middle(words: &[u8], significance: Significance, start: usize, whole: usize) -> u64
-    requires { ⌜ (whole * 8 ≤ 63) × (start + whole ≤ length (now words)) ⌝ }
-    ensures { λ r. ⌜ ((o : Order) → r ≡ loadOf 8 o significance (now (words .entry)) (start * 8) (whole * 8)) ⌝ }
+pub fn load_middle(words: &[Word], significance: Significance, start: usize, whole: usize) -> u64
+    requires { ⌜ (whole * W ≤ 63) × (start + whole ≤ length (now words)) ⌝ }
+    ensures { λ r. ⌜ ((o : Order) → r ≡ loadOf W o significance (now (words .entry)) (start * W) (whole * W)) ⌝ }
 {
     let end = start + whole;
     load_whole(&words[start..end], significance)
@@ -72,14 +75,14 @@ pub fn load_middle(words: &[u8], significance: Significance, start: usize, whole
 
 // The bits of a number, put in place of `whole` words from word `start` on, which are lent on as a part.
 pub fn store_middle(
-    words: &mut [u8],
+    words: &mut [Word],
     significance: Significance,
     start: usize,
     whole: usize,
     v: u64,
 )
-    requires { ⌜ (whole * 8 ≤ 63) × (start + whole ≤ length (now words)) ⌝ }
-    ensures { λ _. ⌜ ((o : Order) → now (words .exit) ≡ storeOf 8 o significance (now (words .entry)) (start * 8) (whole * 8) v) ⌝ }
+    requires { ⌜ (whole * W ≤ 63) × (start + whole ≤ length (now words)) ⌝ }
+    ensures { λ _. ⌜ ((o : Order) → now (words .exit) ≡ storeOf W o significance (now (words .entry)) (start * W) (whole * W) v) ⌝ }
 {
     let end = start + whole;
     store_whole(&mut words[start..end], significance, v);

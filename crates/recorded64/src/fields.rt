@@ -6,8 +6,9 @@ use records::parts::size;
 use records::seen;
 use records::seen::Given;
 use stableply::fields64;
+use word64::Word;
 
-fn read_bit(record: &[u8], words: &[u64]) -> Given {
+fn read_bit(record: &[u8], words: &[Word]) -> Given {
     let mut out = 0u8;
     let returned = fields64::stableply64_read_bit(
         words,
@@ -21,7 +22,7 @@ fn read_bit(record: &[u8], words: &[u64]) -> Given {
     seen::one(returned, out as u64)
 }
 
-fn write_bit(record: &[u8], words: &mut [u64]) -> Given {
+fn write_bit(record: &[u8], words: &mut [Word]) -> Given {
     seen::none(fields64::stableply64_write_bit(
         words,
         code(record, 1),
@@ -33,7 +34,7 @@ fn write_bit(record: &[u8], words: &mut [u64]) -> Given {
     ))
 }
 
-fn load(record: &[u8], words: &[u64]) -> Given {
+fn load(record: &[u8], words: &[Word]) -> Given {
     let mut out: u64 = 0;
     let returned = fields64::stableply64_load(
         words,
@@ -49,7 +50,7 @@ fn load(record: &[u8], words: &[u64]) -> Given {
     seen::one(returned, out)
 }
 
-fn store(record: &[u8], words: &mut [u64]) -> Given {
+fn store(record: &[u8], words: &mut [Word]) -> Given {
     seen::none(fields64::stableply64_store(
         words,
         code(record, 1),
@@ -64,7 +65,7 @@ fn store(record: &[u8], words: &mut [u64]) -> Given {
     ))
 }
 
-fn store_strict(record: &[u8], words: &mut [u64]) -> Given {
+fn store_strict(record: &[u8], words: &mut [Word]) -> Given {
     seen::none(fields64::stableply64_store_strict(
         words,
         code(record, 1),
@@ -80,7 +81,7 @@ fn store_strict(record: &[u8], words: &mut [u64]) -> Given {
 }
 
 // Makes the call, one of 4 to 8.
-pub fn made(record: &[u8], words: &mut [u64]) -> Given {
+pub fn made(record: &[u8], words: &mut [Word]) -> Given {
     match call_of(record) {
         4 => read_bit(record, words),
         5 => write_bit(record, words),

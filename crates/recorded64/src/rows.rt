@@ -5,8 +5,9 @@ use records::parts::size;
 use records::seen;
 use records::seen::Given;
 use stableply::rows64;
+use word64::Word;
 
-fn copy_from(record: &[u8], words: &mut [u64], source: &[u64]) -> Given {
+fn copy_from(record: &[u8], words: &mut [Word], source: &[Word]) -> Given {
     seen::none(rows64::stableply64_copy_from(
         words,
         code(record, 1),
@@ -21,7 +22,7 @@ fn copy_from(record: &[u8], words: &mut [u64], source: &[u64]) -> Given {
     ))
 }
 
-fn copy_within(record: &[u8], words: &mut [u64]) -> Given {
+fn copy_within(record: &[u8], words: &mut [Word]) -> Given {
     seen::none(rows64::stableply64_copy_within(
         words,
         code(record, 1),
@@ -34,7 +35,7 @@ fn copy_within(record: &[u8], words: &mut [u64]) -> Given {
     ))
 }
 
-fn boolean(record: &[u8], words: &mut [u64], right: &[u64]) -> Given {
+fn boolean(record: &[u8], words: &mut [Word], right: &[Word]) -> Given {
     seen::none(rows64::stableply64_boolean(
         words,
         code(record, 1),
@@ -50,7 +51,7 @@ fn boolean(record: &[u8], words: &mut [u64], right: &[u64]) -> Given {
     ))
 }
 
-fn swap(record: &[u8], left: &mut [u64], right: &mut [u64]) -> Given {
+fn swap(record: &[u8], left: &mut [Word], right: &mut [Word]) -> Given {
     seen::none(rows64::stableply64_swap(
         left,
         code(record, 1),
@@ -65,7 +66,7 @@ fn swap(record: &[u8], left: &mut [u64], right: &mut [u64]) -> Given {
     ))
 }
 
-fn equal(record: &[u8], left: &[u64], right: &[u64]) -> Given {
+fn equal(record: &[u8], left: &[Word], right: &[Word]) -> Given {
     let mut out = 0u8;
     let returned = rows64::stableply64_equal(
         left,
@@ -84,7 +85,7 @@ fn equal(record: &[u8], left: &[u64], right: &[u64]) -> Given {
 }
 
 // Makes the call, one of 9 to 13.
-pub fn made(record: &[u8], first: &mut [u64], second: &mut [u64]) -> Given {
+pub fn made(record: &[u8], first: &mut [Word], second: &mut [Word]) -> Given {
     match call_of(record) {
         9 => copy_from(record, first, second),
         10 => copy_within(record, first),

@@ -5,8 +5,9 @@ use records::parts::size;
 use records::seen;
 use records::seen::Given;
 use stableply::rows8;
+use word8::Word;
 
-fn copy_from(record: &[u8], words: &mut [u8], source: &[u8]) -> Given {
+fn copy_from(record: &[u8], words: &mut [Word], source: &[Word]) -> Given {
     seen::none(rows8::stableply8_copy_from(
         words,
         code(record, 1),
@@ -21,7 +22,7 @@ fn copy_from(record: &[u8], words: &mut [u8], source: &[u8]) -> Given {
     ))
 }
 
-fn copy_within(record: &[u8], words: &mut [u8]) -> Given {
+fn copy_within(record: &[u8], words: &mut [Word]) -> Given {
     seen::none(rows8::stableply8_copy_within(
         words,
         code(record, 1),
@@ -34,7 +35,7 @@ fn copy_within(record: &[u8], words: &mut [u8]) -> Given {
     ))
 }
 
-fn boolean(record: &[u8], words: &mut [u8], right: &[u8]) -> Given {
+fn boolean(record: &[u8], words: &mut [Word], right: &[Word]) -> Given {
     seen::none(rows8::stableply8_boolean(
         words,
         code(record, 1),
@@ -50,7 +51,7 @@ fn boolean(record: &[u8], words: &mut [u8], right: &[u8]) -> Given {
     ))
 }
 
-fn swap(record: &[u8], left: &mut [u8], right: &mut [u8]) -> Given {
+fn swap(record: &[u8], left: &mut [Word], right: &mut [Word]) -> Given {
     seen::none(rows8::stableply8_swap(
         left,
         code(record, 1),
@@ -65,7 +66,7 @@ fn swap(record: &[u8], left: &mut [u8], right: &mut [u8]) -> Given {
     ))
 }
 
-fn equal(record: &[u8], left: &[u8], right: &[u8]) -> Given {
+fn equal(record: &[u8], left: &[Word], right: &[Word]) -> Given {
     let mut out = 0u8;
     let returned = rows8::stableply8_equal(
         left,
@@ -84,7 +85,7 @@ fn equal(record: &[u8], left: &[u8], right: &[u8]) -> Given {
 }
 
 // Makes the call, one of 9 to 13.
-pub fn made(record: &[u8], first: &mut [u8], second: &mut [u8]) -> Given {
+pub fn made(record: &[u8], first: &mut [Word], second: &mut [Word]) -> Given {
     match call_of(record) {
         9 => copy_from(record, first, second),
         10 => copy_within(record, first),

@@ -5,8 +5,9 @@ use records::parts::size;
 use records::seen;
 use records::seen::Given;
 use stableply::searches8;
+use word8::Word;
 
-fn first_one(record: &[u8], words: &[u8]) -> Given {
+fn first_one(record: &[u8], words: &[Word]) -> Given {
     let mut found = 0u8;
     let mut at: usize = 0;
     let returned = searches8::stableply8_first_one(
@@ -21,7 +22,7 @@ fn first_one(record: &[u8], words: &[u8]) -> Given {
     seen::two(returned, found as u64, at as u64)
 }
 
-fn last_one(record: &[u8], words: &[u8]) -> Given {
+fn last_one(record: &[u8], words: &[Word]) -> Given {
     let mut found = 0u8;
     let mut at: usize = 0;
     let returned = searches8::stableply8_last_one(
@@ -36,7 +37,7 @@ fn last_one(record: &[u8], words: &[u8]) -> Given {
     seen::two(returned, found as u64, at as u64)
 }
 
-fn first_zero(record: &[u8], words: &[u8]) -> Given {
+fn first_zero(record: &[u8], words: &[Word]) -> Given {
     let mut found = 0u8;
     let mut at: usize = 0;
     let returned = searches8::stableply8_first_zero(
@@ -51,7 +52,7 @@ fn first_zero(record: &[u8], words: &[u8]) -> Given {
     seen::two(returned, found as u64, at as u64)
 }
 
-fn last_zero(record: &[u8], words: &[u8]) -> Given {
+fn last_zero(record: &[u8], words: &[Word]) -> Given {
     let mut found = 0u8;
     let mut at: usize = 0;
     let returned = searches8::stableply8_last_zero(
@@ -67,7 +68,7 @@ fn last_zero(record: &[u8], words: &[u8]) -> Given {
 }
 
 // Makes the search, one of 14 to 17.
-pub fn made(record: &[u8], words: &[u8]) -> Given {
+pub fn made(record: &[u8], words: &[Word]) -> Given {
     match call_of(record) {
         14 => first_one(record, words),
         15 => last_one(record, words),

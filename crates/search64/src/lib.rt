@@ -10,14 +10,16 @@ use rules::SearchAnswer;
 use rules::Span;
 use rules::Verdict;
 use rules::Width;
+use word64::Word;
 ghost use mathlib.Core.Path.{_≡_};
+ghost use Rattle.word64.specs.Width.{W};
 ghost use Rattle.rules.specs.Refusals.{spanCases};
 ghost use Rattle.rules.specs.Calls.{findFirst, findLast, firstFound, lastFound, answer};
 ghost use Rattle.rules.specs.Answers.{Judges, searchSays};
 
 // The smallest index of a one, or absent exactly if there is none; refusals 1 to 3.
-pub fn first_one(words: &[u64], span: Span) -> SearchAnswer
-    ensures { λ r. ⌜ searchSays r ≡ answer 64 (findFirst 1 span) (now (words .entry)) ⌝ }
+pub fn first_one(words: &[Word], span: Span) -> SearchAnswer
+    ensures { λ r. ⌜ searchSays r ≡ answer W (findFirst 1 span) (now (words .entry)) ⌝ }
 {
     let verdict = checked(span, words.len());
     match verdict {
@@ -31,8 +33,8 @@ pub fn first_one(words: &[u64], span: Span) -> SearchAnswer
 }
 
 // The smallest index of a zero, or absent exactly if there is none; refusals 1 to 3.
-pub fn first_zero(words: &[u64], span: Span) -> SearchAnswer
-    ensures { λ r. ⌜ searchSays r ≡ answer 64 (findFirst 0 span) (now (words .entry)) ⌝ }
+pub fn first_zero(words: &[Word], span: Span) -> SearchAnswer
+    ensures { λ r. ⌜ searchSays r ≡ answer W (findFirst 0 span) (now (words .entry)) ⌝ }
 {
     let verdict = checked(span, words.len());
     match verdict {
@@ -46,8 +48,8 @@ pub fn first_zero(words: &[u64], span: Span) -> SearchAnswer
 }
 
 // The largest index of a one, or absent exactly if there is none; refusals 1 to 3.
-pub fn last_one(words: &[u64], span: Span) -> SearchAnswer
-    ensures { λ r. ⌜ searchSays r ≡ answer 64 (findLast 1 span) (now (words .entry)) ⌝ }
+pub fn last_one(words: &[Word], span: Span) -> SearchAnswer
+    ensures { λ r. ⌜ searchSays r ≡ answer W (findLast 1 span) (now (words .entry)) ⌝ }
 {
     let verdict = checked(span, words.len());
     match verdict {
@@ -61,8 +63,8 @@ pub fn last_one(words: &[u64], span: Span) -> SearchAnswer
 }
 
 // The largest index of a zero, or absent exactly if there is none; refusals 1 to 3.
-pub fn last_zero(words: &[u64], span: Span) -> SearchAnswer
-    ensures { λ r. ⌜ searchSays r ≡ answer 64 (findLast 0 span) (now (words .entry)) ⌝ }
+pub fn last_zero(words: &[Word], span: Span) -> SearchAnswer
+    ensures { λ r. ⌜ searchSays r ≡ answer W (findLast 0 span) (now (words .entry)) ⌝ }
 {
     let verdict = checked(span, words.len());
     match verdict {
@@ -77,7 +79,7 @@ pub fn last_zero(words: &[u64], span: Span) -> SearchAnswer
 
 // Refusals 1 to 3 at this width.
 fn checked(span: Span, lent: usize) -> Verdict
-    ensures { λ r. ⌜ Judges (spanCases 64 lent span) r ⌝ }
+    ensures { λ r. ⌜ Judges (spanCases W lent span) r ⌝ }
 {
     span.check(Width::W64, lent)
 }

@@ -1,6 +1,7 @@
 // Whole words passed over: those from a up to e that are f.
 use crate::leaves::pass_down;
 use crate::leaves::pass_up;
+use word8::Word;
 ghost use mathlib.Core.Logic.{_≢_};
 ghost use Prim.Native.Nat.{_-_, _≤_, _<_};
 ghost use lib.ListN.{length, getD};
@@ -9,10 +10,10 @@ ghost use Rattle.rules.proofs.Alike.{Alike};
 // How many words a large and a small block have.
 const LARGE: usize = 256;
 
-const SMALL: usize = 16;
+const SMALL: usize = 64;
 
 // Up from a to the first word that is not f, or to e.
-pub fn skip_up(words: &[u8], a: usize, e: usize, f: u8) -> usize
+pub fn skip_up(words: &[Word], a: usize, e: usize, f: Word) -> usize
     requires { ⌜ (a ≤ e) × (e ≤ length (now words)) ⌝ }
     ensures { λ r. ⌜ (a ≤ r) × (r ≤ e) × Alike f (now (words .entry)) a r × (r < e → getD (now (words .entry)) r 0 ≢ f) ⌝ }
 {
@@ -22,7 +23,7 @@ pub fn skip_up(words: &[u8], a: usize, e: usize, f: u8) -> usize
 }
 
 // Down from e to just past the last word that is not f, or to a.
-pub fn skip_down(words: &[u8], a: usize, e: usize, f: u8) -> usize
+pub fn skip_down(words: &[Word], a: usize, e: usize, f: Word) -> usize
     requires { ⌜ (a ≤ e) × (e ≤ length (now words)) ⌝ }
     ensures { λ r. ⌜ (a ≤ r) × (r ≤ e) × Alike f (now (words .entry)) r e × (a < r → getD (now (words .entry)) (r - 1) 0 ≢ f) ⌝ }
 {

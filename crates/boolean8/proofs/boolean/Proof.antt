@@ -6,6 +6,7 @@ use lib.ListN.{length}
 use lib.Dec.{lit<}
 use borrow.Author.Needs.{needs}
 use denote.Ref.{now}
+use Rattle.word8.specs.Width.{W}
 use Rattle.rules.specs.declared.Verdict.the-variants.{Fine}
 use Rattle.rules.specs.Positions.{row}
 use Rattle.rules.specs.Refusals.{verdict, pairCases}
@@ -16,11 +17,11 @@ use Rattle.boolean8.proofs.boolean.Statement.{statement}
 use Rattle.boolean8.proofs.boolean.Tie as tie
 use Rattle.rules.proofs.OneAnswer.{judged}
 
-fine : (c : tie.After-enum-told) → (let a = c .before .before .before .before .before .args in verdict (pairCases 8 (length (now (a .words))) (a .span) (length (now (a .right))) (a .right-span)) ≡ Fine)
+fine : (c : tie.After-enum-told) → (let a = c .before .before .before .before .before .args in verdict (pairCases W (length (now (a .words))) (a .span) (length (now (a .right))) (a .right-span)) ≡ Fine)
 fine c = sym (judged (c .before .before .check-pair .ensures)) ∙ c .enum-told .given .1
 
-held : (c : tie.After-enum-told) → (let a = c .before .before .before .before .before .args in Pair 8 (length (now (a .words))) (a .span) (length (now (a .right))) (a .right-span))
-held c = fine-pair 8 _ _ _ _ (fine c)
+held : (c : tie.After-enum-told) → (let a = c .before .before .before .before .before .args in Pair W (length (now (a .words))) (a .span) (length (now (a .right))) (a .right-span))
+held c = fine-pair W _ _ _ _ (fine c)
 
 check-pair-requires : tie.Need-check-pair-requires
 check-pair-requires c κs = search needs
@@ -59,7 +60,7 @@ rest-requires : tie.Need-rest-requires
 rest-requires c κs = let h = held (c .before .before .before .before .before .before .before .before .before .before) in let l = h .left in let r = h .right in omega arith
 
 returns : tie.Need-returns
-returns c = boolean-refused 8 (lit< tt) _ _ _ _ _ _ (sym (judged (c .before .before .before .check-pair .ensures)) ∙ c .before .verdict .given .1) refl
+returns c = boolean-refused W (lit< tt) _ _ _ _ _ _ (sym (judged (c .before .before .before .check-pair .ensures)) ∙ c .before .verdict .given .1) refl
 
 same-length : tie.Need-same-length
 same-length c = search needs
@@ -73,10 +74,10 @@ returns-2 c =
     let a = told .before .before .before .before .before .args in
     let h = held told in
     let l = h .left in
-    let d = a .span .word * 8 + a .span .head .0 in
-    let from : ℕ → ℕ = λ i. row 8 (a .span .order) (now (a .right)) (a .right-span .word * 8 + a .right-span .head .0 + i) in
-    boolean-done 8 (lit< tt) (a .operation) (now (a .words)) (a .span) (now (a .right)) (a .right-span) (until (a .right-span .len) from) (fine told)
-    (combined-short 8 (lit< tt) (a .span .order) (now (a .words)) d (a .operation) (a .span .len) (a .right-span .len) (at-least .least .result) from (at-least .least .ensures) (omega arith)
+    let d = a .span .word * W + a .span .head .0 in
+    let from : ℕ → ℕ = λ i. row W (a .span .order) (now (a .right)) (a .right-span .word * W + a .right-span .head .0 + i) in
+    boolean-done W (lit< tt) (a .operation) (now (a .words)) (a .span) (now (a .right)) (a .right-span) (until (a .right-span .len) from) (fine told)
+    (combined-short W (lit< tt) (a .span .order) (now (a .words)) d (a .operation) (a .span .len) (a .right-span .len) (at-least .least .result) from (at-least .least .ensures) (omega arith)
     (main .between .ensures) (rest .rest .ensures))
     (until-in (a .right-span .len) from) (until-out (a .right-span .len) from)
 

@@ -7,6 +7,7 @@ use Prim.Native.Nat.{ℕ, _+_, _*_, _/_, _%_}
 use lib.Dec.{lit<}
 use lib.ListN.{length}
 use denote.Ref.{now}
+use Rattle.word8.specs.Width.{W}
 use Rattle.rules.specs.declared.Verdict.the-variants.{Fine}
 use Rattle.rules.specs.Refusals.{verdict, bitCases}
 use Rattle.rules.proofs.Accepted.{Bit, fine-bit}
@@ -16,11 +17,11 @@ use Rattle.field8.proofs.read_bit.Statement.{statement}
 use Rattle.field8.proofs.read_bit.Tie as tie
 use Rattle.rules.proofs.OneAnswer.{judged}
 
-fine : (c : tie.After-enum-told) → (let a = c .before .before .before .before .args in verdict (bitCases 8 (length (now (a .words))) (a .span) (a .index)) ≡ Fine)
+fine : (c : tie.After-enum-told) → (let a = c .before .before .before .before .args in verdict (bitCases W (length (now (a .words))) (a .span) (a .index)) ≡ Fine)
 fine c = sym (judged (c .before .before .check-bit .ensures)) ∙ c .enum-told .given .1
 
-held : (c : tie.After-enum-told) → (let a = c .before .before .before .before .args in Bit 8 (length (now (a .words))) (a .span) (a .index))
-held c = fine-bit 8 _ _ _ (fine c)
+held : (c : tie.After-enum-told) → (let a = c .before .before .before .before .args in Bit W (length (now (a .words))) (a .span) (a .index))
+held c = fine-bit W _ _ _ (fine c)
 
 check-bit-requires : tie.Need-check-bit-requires
 check-bit-requires c κs = search needs
@@ -47,13 +48,13 @@ word-at-requires : tie.Need-word-at-requires
 word-at-requires c κs = held (c .before .before .before .before) .word-in
 
 returns : tie.Need-returns
-returns c = read-refused 8 _ _ _ _ (sym (judged (c .before .before .before .check-bit .ensures)) ∙ c .before .verdict .given .1)
+returns c = read-refused W _ _ _ _ (sym (judged (c .before .before .before .check-bit .ensures)) ∙ c .before .verdict .given .1)
 
 returns-2 : tie.Need-returns-2
 returns-2 c = let w = c .before in
     let s = w .before in
     let p = s .before in
-    read-selected 8 _ _ _ (fine (p .before .before .before)) (p .position .ensures .0) (s .select .ensures) (w .word-at .ensures .0)
+    read-selected W _ _ _ (fine (p .before .before .before)) (p .position .ensures .0) (s .select .ensures) (w .word-at .ensures .0)
 
 pub read-bit-spec : {M : Type 1} → statement M
 read-bit-spec =

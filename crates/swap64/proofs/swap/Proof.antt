@@ -4,6 +4,7 @@ use native.Mathlib.Omega.{arith}
 use lib.ListN.{length}
 use borrow.Author.Needs.{needs}
 use denote.Ref.{now}
+use Rattle.word64.specs.Width.{W}
 use Rattle.rules.specs.declared.Verdict.the-variants.{Fine}
 use Rattle.rules.specs.Positions.{row}
 use Rattle.rules.specs.Refusals.{verdict, copyCases}
@@ -13,11 +14,11 @@ use Rattle.swap64.proofs.swap.Statement.{statement}
 use Rattle.swap64.proofs.swap.Tie as tie
 use Rattle.rules.proofs.OneAnswer.{judged}
 
-fine : (c : tie.After-enum-told) → (let a = c .before .before .before .before .before .args in verdict (copyCases 64 (length (now (a .left))) (a .left-span) (length (now (a .right))) (a .right-span)) ≡ Fine)
+fine : (c : tie.After-enum-told) → (let a = c .before .before .before .before .before .args in verdict (copyCases W (length (now (a .left))) (a .left-span) (length (now (a .right))) (a .right-span)) ≡ Fine)
 fine c = sym (judged (c .before .before .check-copy .ensures)) ∙ c .enum-told .given .1
 
-held : (c : tie.After-enum-told) → (let a = c .before .before .before .before .before .args in Copy 64 (length (now (a .left))) (a .left-span) (length (now (a .right))) (a .right-span))
-held c = fine-copy 64 _ _ _ _ (fine c)
+held : (c : tie.After-enum-told) → (let a = c .before .before .before .before .before .args in Copy W (length (now (a .left))) (a .left-span) (length (now (a .right))) (a .right-span))
+held c = fine-copy W _ _ _ _ (fine c)
 
 check-copy-requires : tie.Need-check-copy-requires
 check-copy-requires c κs = search needs
@@ -44,7 +45,7 @@ swap-row-requires : tie.Need-swap-row-requires
 swap-row-requires c κs = let h = held (c .before .before .before .before .before .before) in let p = h .pair in let l = p .left in let r = p .right in omega arith
 
 returns : tie.Need-returns
-returns c = swap-refused 64 _ _ _ _ _ (sym (judged (c .before .before .before .check-copy .ensures)) ∙ c .before .verdict .given .1)
+returns c = swap-refused W _ _ _ _ _ (sym (judged (c .before .before .before .check-copy .ensures)) ∙ c .before .verdict .given .1)
 
 same-length : tie.Need-same-length
 same-length c = search needs
@@ -57,7 +58,7 @@ returns-2 c =
     let row = c .before .before .before .before in
     let told = row .before .before .before .before .before .before .before in
     let a = told .before .before .before .before .before .args in
-    swap-done 64 (now (a .left)) (a .left-span) (now (a .right)) (a .right-span) (fine told) (row .swap-row .ensures .0) (row .swap-row .ensures .1)
+    swap-done W (now (a .left)) (a .left-span) (now (a .right)) (a .right-span) (fine told) (row .swap-row .ensures .0) (row .swap-row .ensures .1)
 
 pub swap-spec : {M : Type 1} → statement M
 swap-spec =

@@ -4,6 +4,7 @@ use native.Mathlib.Omega.{arith}
 use lib.ListN.{length}
 use borrow.Author.Needs.{needs}
 use denote.Ref.{now}
+use Rattle.word8.specs.Width.{W}
 use Rattle.rules.specs.declared.Verdict.the-variants.{Fine}
 use Rattle.rules.specs.Positions.{row}
 use Rattle.rules.specs.Refusals.{verdict, withinCases}
@@ -13,11 +14,11 @@ use Rattle.within8.proofs.copy_within.Statement.{statement}
 use Rattle.within8.proofs.copy_within.Tie as tie
 use Rattle.rules.proofs.OneAnswer.{judged}
 
-fine : (c : tie.After-enum-told) → (let a = c .before .before .before .before .args in verdict (withinCases 8 (length (now (a .words))) (a .span) (a .start) (a .count) (a .destination)) ≡ Fine)
+fine : (c : tie.After-enum-told) → (let a = c .before .before .before .before .args in verdict (withinCases W (length (now (a .words))) (a .span) (a .start) (a .count) (a .destination)) ≡ Fine)
 fine c = sym (judged (c .before .before .check-copy-within .ensures)) ∙ c .enum-told .given .1
 
-held : (c : tie.After-enum-told) → (let a = c .before .before .before .before .args in Move 8 (length (now (a .words))) (a .span) (a .start) (a .count) (a .destination))
-held c = fine-move 8 _ _ _ _ _ (fine c)
+held : (c : tie.After-enum-told) → (let a = c .before .before .before .before .args in Move W (length (now (a .words))) (a .span) (a .start) (a .count) (a .destination))
+held c = fine-move W _ _ _ _ _ (fine c)
 
 check-copy-within-requires : tie.Need-check-copy-within-requires
 check-copy-within-requires c κs = search needs
@@ -44,7 +45,7 @@ move-row-requires : tie.Need-move-row-requires
 move-row-requires c κs = let h = held (c .before .before .before) in let l = h .lies in omega arith
 
 returns : tie.Need-returns
-returns c = inside-refused 8 _ _ _ _ _ _ (sym (judged (c .before .before .before .check-copy-within .ensures)) ∙ c .before .verdict .given .1) refl
+returns c = inside-refused W _ _ _ _ _ _ (sym (judged (c .before .before .before .check-copy-within .ensures)) ∙ c .before .verdict .given .1) refl
 
 same-length : tie.Need-same-length
 same-length c = search needs
@@ -54,7 +55,7 @@ returns-2 c =
     let row = c .before .before in
     let told = row .before .before .before .before in
     let a = told .before .before .before .before .args in
-    inside-done 8 (now (a .words)) (a .span) (a .start) (a .count) (a .destination) (fine told) (row .move-row .ensures)
+    inside-done W (now (a .words)) (a .span) (a .start) (a .count) (a .destination) (fine told) (row .move-row .ensures)
 
 pub copy-within-spec : {M : Type 1} → statement M
 copy-within-spec =

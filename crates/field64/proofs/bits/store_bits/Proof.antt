@@ -6,6 +6,7 @@ use Prim.Native.Nat.{ℕ, _+_, _-_, _*_}
 use lib.Dec.{lit<}
 use lib.ListN.{length}
 use denote.Ref.{now}
+use Rattle.word64.specs.Width.{W}
 use Rattle.rules.specs.Fields.{storeOf}
 use Rattle.rules.proofs.Cuts.{firstOf, length-store}
 use Rattle.rules.proofs.Pieces.{store-rest}
@@ -37,7 +38,7 @@ store-rest-requires c κs = let p = c .before .before .before .before in
     let k = d .across .ensures .all in
     let e = d .across .ensures .edge (omega arith) in
     let l = d .across .ensures .rest in
-    let n : length (p .put-piece .last .0) ≡ length (now (a .words)) = ap length (p .put-piece .ensures (a .significance)) ∙ length-store 64 _ _ _ _ _ _ in
+    let n : length (p .put-piece .last .0) ≡ length (now (a .words)) = ap length (p .put-piece .ensures (a .significance)) ∙ length-store W _ _ _ _ _ _ in
     (omega arith, omega arith, omega arith)
 
 same-length : tie.Need-same-length
@@ -54,12 +55,12 @@ returns c = let s = c .before .before in
     let k = d .across .ensures .all in
     let g = a .significance in
     let o = a .order in
-    let m = r .whole * 64 + r .last in
+    let m = r .whole * W + r .last in
     let rest : a .len - r .first ≡ m = omega arith in
-    store-rest 64 (lit< tt) o g (now (a .words)) (a .word) (a .head .0) (r .first) m (d .across .ensures .edge (omega arith)) (a .v)
-    (p .put-piece .ensures g ∙ ap (storeOf 64 o g (now (a .words)) (a .word * 64 + a .head .0) (r .first)) (f .first-of .ensures ∙ ap (firstOf g (a .v)) rest))
-    (s .store-rest .ensures ∙ ap (storeOf 64 o g (p .put-piece .last .0) ((a .word + 1) * 64) m) (b .rest-of .ensures))
-    ∙ ap (λ (x : ℕ). storeOf 64 o g (now (a .words)) (a .word * 64 + a .head .0) x (a .v)) (omega arith)
+    store-rest W (lit< tt) o g (now (a .words)) (a .word) (a .head .0) (r .first) m (d .across .ensures .edge (omega arith)) (a .v)
+    (p .put-piece .ensures g ∙ ap (storeOf W o g (now (a .words)) (a .word * W + a .head .0) (r .first)) (f .first-of .ensures ∙ ap (firstOf g (a .v)) rest))
+    (s .store-rest .ensures ∙ ap (storeOf W o g (p .put-piece .last .0) ((a .word + 1) * W) m) (b .rest-of .ensures))
+    ∙ ap (λ (x : ℕ). storeOf W o g (now (a .words)) (a .word * W + a .head .0) x (a .v)) (omega arith)
 
 pub store-bits-spec : {M : Type 1} → statement M
 store-bits-spec =

@@ -6,6 +6,7 @@ use Prim.Native.Nat.{ℕ, _+_, _-_, _*_, _/_, _^_, _<_, _≤_}
 use lib.Dec.{lit<}
 use lib.ListN.{length}
 use denote.Ref.{now}
+use Rattle.word64.specs.Width.{W}
 use Rattle.rules.specs.declared.Significance.{Significance}
 use Rattle.rules.specs.Fields.{loadOf}
 use Rattle.rules.proofs.Chunk.{own}
@@ -35,9 +36,9 @@ returns c = let p = c .before in
     let r = k .of .result in
     let o = a .order in
     let all : r .first ≡ a .len = omega arith in
-    load-fits 64 (lit< tt) o (a .significance) (now (a .words)) (a .word * 64 + a .head .0) (a .len)
-    (p .piece .ensures .0 ∙ chunk-piece 64 (lit< tt) o (now (a .words)) (a .word) chunk (x .chunk-at .ensures .0) (a .head .0) (r .first) (omega arith)
-    ∙ ap₂ (λ (e : Significance) (n : ℕ). loadOf 64 o e (now (a .words)) (a .word * 64 + a .head .0) n) (sym (k .before .before .pre .5)) all)
+    load-fits W (lit< tt) o (a .significance) (now (a .words)) (a .word * W + a .head .0) (a .len)
+    (p .piece .ensures .0 ∙ chunk-piece W (lit< tt) o (now (a .words)) (a .word) chunk (x .chunk-at .ensures .0) (a .head .0) (r .first) (omega arith)
+    ∙ ap₂ (λ (e : Significance) (n : ℕ). loadOf W o e (now (a .words)) (a .word * W + a .head .0) n) (sym (k .before .before .pre .5)) all)
 
 add-piece-at : tie.Need-add-piece-at
 add-piece-at c = search needs
@@ -64,11 +65,11 @@ returns-2 c = let d = c .before .before in
     let cuts = k .of .ensures .all in
     let e = edge d in
     let all : r .first + r .last ≡ a .len = omega arith in
-    load-fits 64 (lit< tt) o (a .significance) (now (a .words)) (a .word * 64 + a .head .0) (a .len)
+    load-fits W (lit< tt) o (a .significance) (now (a .words)) (a .word * W + a .head .0) (a .len)
     (c .join .ensures ∙ ap (λ (e : Significance). joined e (p .piece .result) (r .first) (c .before .piece-at .result) (r .last)) s
-    ∙ chunk-two 64 (lit< tt) o (now (a .words)) (a .word) chunk (x .chunk-at .ensures .0) (chunk / 64) (a .head .0) (r .first) (r .last) refl e (omega arith)
+    ∙ chunk-two W (lit< tt) o (now (a .words)) (a .word) chunk (x .chunk-at .ensures .0) (chunk / W) (a .head .0) (r .first) (r .last) refl e (omega arith)
     (p .piece .ensures .0) (c .before .piece-at .ensures .0 (own o))
-    ∙ ap₂ (λ (e : Significance) (n : ℕ). loadOf 64 o e (now (a .words)) (a .word * 64 + a .head .0) n) (sym s) all)
+    ∙ ap₂ (λ (e : Significance) (n : ℕ). loadOf W o e (now (a .words)) (a .word * W + a .head .0) n) (sym s) all)
 
 pub load-near-spec : {M : Type 1} → statement M
 load-near-spec =

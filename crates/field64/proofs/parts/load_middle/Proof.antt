@@ -7,6 +7,7 @@ use lib.Dec.{lit<}
 use lib.ListN.{length, take, drop, length-drop}
 use lib.Seq.{length-take-le}
 use denote.Ref.{now}
+use Rattle.word64.specs.Width.{W}
 use Rattle.rules.specs.Fields.{loadOf}
 use Rattle.rules.proofs.Wholes.{load-part}
 use Rattle.field64.proofs.parts.load_middle.Statement.{statement}
@@ -15,6 +16,7 @@ use Rattle.field64.proofs.parts.load_middle.Tie as tie
 add-end : tie.Need-add-end
 add-end c = search needs
 
+-- asked above 8 bits
 mul-load-whole : tie.Need-mul-load-whole
 mul-load-whole c = search needs
 
@@ -35,8 +37,8 @@ returns c = let a = c .before .before .before .args in
     let l = a .start + a .whole - a .start in
     let part = take l (drop (a .start) (now (a .words))) in
     let len : length part ≡ a .whole = length-take-le l (drop (a .start) (now (a .words))) (simp length-drop (omega arith)) ∙ omega arith in
-    λ o. c .load-whole .ensures o ∙ ap (λ (n : ℕ). loadOf 64 o (a .significance) part 0 (n * 64)) len
-    ∙ load-part 64 (lit< tt) o (a .significance) (now (a .words)) (a .start) l (a .whole * 64) (omega arith)
+    λ o. c .load-whole .ensures o ∙ ap (λ (n : ℕ). loadOf W o (a .significance) part 0 (n * W)) len
+    ∙ load-part W (lit< tt) o (a .significance) (now (a .words)) (a .start) l (a .whole * W) (omega arith)
 
 pub load-middle-spec : {M : Type 1} → statement M
 load-middle-spec =

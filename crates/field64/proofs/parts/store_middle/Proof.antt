@@ -4,6 +4,7 @@ use native.Mathlib.Omega.{arith}
 use Prim.Native.Nat.{_+_, _-_}
 use lib.Dec.{lit<}
 use denote.Ref.{now}
+use Rattle.word64.specs.Width.{W}
 use Rattle.rules.proofs.Wholes.{store-part}
 use Rattle.field64.proofs.parts.store_middle.Statement.{statement}
 use Rattle.field64.proofs.parts.store_middle.Tie as tie
@@ -11,6 +12,7 @@ use Rattle.field64.proofs.parts.store_middle.Tie as tie
 add-end : tie.Need-add-end
 add-end c = search needs
 
+-- asked above 8 bits
 mul-store-whole : tie.Need-mul-store-whole
 mul-store-whole c = search needs
 
@@ -33,7 +35,7 @@ returns : tie.Need-returns
 returns c = let s = c .before .before in
     let k = s .before .before in
     let a = k .before .args in
-    λ o. store-part 64 (lit< tt) o (a .significance) (now (a .words)) (λ i. k .slice-known .given i .fits) (a .start) (a .start + a .whole - a .start) (a .whole)
+    λ o. store-part W (lit< tt) o (a .significance) (now (a .words)) (λ i. k .slice-known .given i .fits) (a .start) (a .start + a .whole - a .start) (a .whole)
     (omega arith) (omega arith) (a .v) (s .store-whole .ensures o)
 
 pub store-middle-spec : {M : Type 1} → statement M

@@ -5,6 +5,7 @@ use mathlib.Core.Path.{_≡_, sym, ap, _∙_}
 use Prim.Native.Nat.{ℕ, _+_, _-_, _*_, _^_, _<_, _≤_}
 use lib.Dec.{lit<}
 use denote.Ref.{now}
+use Rattle.word8.specs.Width.{W}
 use Rattle.rules.specs.Fields.{loadOf}
 use Rattle.rules.proofs.Cuts.{joined, load-fits}
 use Rattle.rules.proofs.Pieces.{load-rest}
@@ -12,7 +13,7 @@ use Rattle.field8.proofs.bits.load_bits.Statement.{statement}
 use Rattle.field8.proofs.bits.load_bits.Tie as tie
 
 -- what follows the first piece
-rest : (c : tie.After-piece-at) → (let r = c .before .across .result in r .whole * 8 + r .last ≡ c .before .before .before .args .len - r .first)
+rest : (c : tie.After-piece-at) → (let r = c .before .across .result in r .whole * W + r .last ≡ c .before .before .before .args .len - r .first)
 rest c = let k = c .before .across .ensures .all in omega arith
 
 across-requires : tie.Need-across-requires
@@ -42,13 +43,13 @@ returns c = let d = c .before .before in
     let k = d .before in
     let a = k .before .before .args in
     let r = k .across .result in
-    let m = r .whole * 8 + r .last in
+    let m = r .whole * W + r .last in
     let e = rest d in
     let w = k .across .ensures .all in
-    load-fits 8 (lit< tt) (a .order) (a .significance) (now (a .words)) (a .word * 8 + a .head .0) (a .len)
+    load-fits W (lit< tt) (a .order) (a .significance) (now (a .words)) (a .word * W + a .head .0) (a .len)
     (c .join .ensures ∙ ap (joined (a .significance) (d .piece-at .result) (r .first) (c .before .load-rest .result)) (sym e)
-    ∙ load-rest 8 (lit< tt) (a .order) (a .significance) (now (a .words)) (a .word) (a .head .0) (r .first) m (k .across .ensures .edge (omega arith)) (d .piece-at .ensures .0 (a .significance)) (c .before .load-rest .ensures .0)
-    ∙ ap (loadOf 8 (a .order) (a .significance) (now (a .words)) (a .word * 8 + a .head .0)) (omega arith))
+    ∙ load-rest W (lit< tt) (a .order) (a .significance) (now (a .words)) (a .word) (a .head .0) (r .first) m (k .across .ensures .edge (omega arith)) (d .piece-at .ensures .0 (a .significance)) (c .before .load-rest .ensures .0)
+    ∙ ap (loadOf W (a .order) (a .significance) (now (a .words)) (a .word * W + a .head .0)) (omega arith))
 
 pub load-bits-spec : {M : Type 1} → statement M
 load-bits-spec =

@@ -5,6 +5,7 @@ use mathlib.Core.Path.{_≡_, ap, _∙_}
 use Prim.Native.Nat.{ℕ, _+_, _*_, _^_, _<_}
 use lib.Dec.{lit<}
 use denote.Ref.{now}
+use Rattle.word8.specs.Width.{W}
 use Rattle.rules.specs.Fields.{loadOf}
 use Rattle.rules.proofs.Cuts.{load-fits}
 use Rattle.rules.proofs.Pieces.{load-last}
@@ -16,9 +17,9 @@ load-middle-requires c κs = search needs
 
 returns : tie.Need-returns
 returns c = let a = c .before .before .before .args in
-    let none : a .whole * 8 ≡ a .whole * 8 + a .last = omega arith in
-    load-fits 8 (lit< tt) (a .order) (a .significance) (now (a .words)) (a .start * 8) (a .whole * 8 + a .last)
-    (c .before .load-middle .ensures (a .order) ∙ ap (loadOf 8 (a .order) (a .significance) (now (a .words)) (a .start * 8)) none)
+    let none : a .whole * W ≡ a .whole * W + a .last = omega arith in
+    load-fits W (lit< tt) (a .order) (a .significance) (now (a .words)) (a .start * W) (a .whole * W + a .last)
+    (c .before .load-middle .ensures (a .order) ∙ ap (loadOf W (a .order) (a .significance) (now (a .words)) (a .start * W)) none)
 
 add-piece-at : tie.Need-add-piece-at
 add-piece-at c = search needs
@@ -35,16 +36,16 @@ join-requires c κs = let m = c .before .before in
       omega arith,
       omega arith,
       omega arith,
-      load-fits 8 (lit< tt) (a .order) (a .significance) (now (a .words)) (a .start * 8) (a .whole * 8) (m .load-middle .ensures (a .order)) .1,
+      load-fits W (lit< tt) (a .order) (a .significance) (now (a .words)) (a .start * W) (a .whole * W) (m .load-middle .ensures (a .order)) .1,
       c .piece-at .ensures .1,
     )
 
 returns-2 : tie.Need-returns-2
 returns-2 c = let m = c .before .before .before in
     let a = m .before .before .args in
-    load-fits 8 (lit< tt) (a .order) (a .significance) (now (a .words)) (a .start * 8) (a .whole * 8 + a .last)
+    load-fits W (lit< tt) (a .order) (a .significance) (now (a .words)) (a .start * W) (a .whole * W + a .last)
     (c .join .ensures
-    ∙ load-last 8 (lit< tt) (a .order) (a .significance) (now (a .words)) (a .start) (a .whole) (a .last) (m .load-middle .ensures (a .order)) (c .before .piece-at .ensures .0 (a .significance)))
+    ∙ load-last W (lit< tt) (a .order) (a .significance) (now (a .words)) (a .start) (a .whole) (a .last) (m .load-middle .ensures (a .order)) (c .before .piece-at .ensures .0 (a .significance)))
 
 pub load-rest-spec : {M : Type 1} → statement M
 load-rest-spec =

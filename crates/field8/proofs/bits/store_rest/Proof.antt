@@ -5,6 +5,7 @@ use mathlib.Core.Path.{_≡_, sym, ap, ap₂, _∙_}
 use Prim.Native.Nat.{ℕ, _+_, _*_}
 use lib.Dec.{lit<}
 use denote.Ref.{now}
+use Rattle.word8.specs.Width.{W}
 use Rattle.rules.specs.Fields.{storeOf}
 use Rattle.rules.proofs.Cuts.{firstOf, first-all}
 use Rattle.rules.proofs.Pieces.{store-last}
@@ -27,7 +28,7 @@ returns c = let m = c .before .before .before in
     let g = a .significance in
     let none : a .last ≡ 0 = omega arith in
     let all : f .first-of .result ≡ a .v = f .first-of .ensures ∙ ap (firstOf g (a .v)) none ∙ first-all g (a .v) in
-    m .store-middle .ensures (a .order) ∙ ap₂ (λ (x y : ℕ). storeOf 8 (a .order) g (now (a .words)) (a .start * 8) x y) (omega arith) all
+    m .store-middle .ensures (a .order) ∙ ap₂ (λ (x y : ℕ). storeOf W (a .order) g (now (a .words)) (a .start * W) x y) (omega arith) all
 
 mul-rest-of : tie.Need-mul-rest-of
 mul-rest-of c = search needs
@@ -52,9 +53,9 @@ returns-2 c = let p = c .before .before in
     let a = f .before .before .args in
     let g = a .significance in
     let o = a .order in
-    store-last 8 (lit< tt) o g (now (a .words)) (a .start) (a .whole) (a .last) (a .v)
-    (m .store-middle .ensures o ∙ ap (storeOf 8 o g (now (a .words)) (a .start * 8) (a .whole * 8)) (f .first-of .ensures))
-    (p .put-piece .ensures g ∙ ap (storeOf 8 o g (m .store-middle .last .0) ((a .start + a .whole) * 8 + 0) (a .last)) (b .rest-of .ensures))
+    store-last W (lit< tt) o g (now (a .words)) (a .start) (a .whole) (a .last) (a .v)
+    (m .store-middle .ensures o ∙ ap (storeOf W o g (now (a .words)) (a .start * W) (a .whole * W)) (f .first-of .ensures))
+    (p .put-piece .ensures g ∙ ap (storeOf W o g (m .store-middle .last .0) ((a .start + a .whole) * W + 0) (a .last)) (b .rest-of .ensures))
 
 pub store-rest-spec : {M : Type 1} → statement M
 store-rest-spec =

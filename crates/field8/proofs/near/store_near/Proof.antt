@@ -6,6 +6,7 @@ use Prim.Native.Nat.{ℕ, _+_, _-_, _*_, _/_, _^_, _<_, _≤_}
 use lib.Dec.{lit<}
 use lib.ListN.{length}
 use denote.Ref.{now}
+use Rattle.word8.specs.Width.{W}
 use Rattle.rules.specs.declared.Significance.{Significance}
 use Rattle.rules.specs.Fields.{storeOf}
 use Rattle.rules.proofs.Chunk.{own}
@@ -16,7 +17,7 @@ use Rattle.field8.proofs.near.store_near.Tie as tie
 
 -- the chunk stored
 front : (c : tie.After-slice-known2) → (let f = c .before .before .before .before .before in let k = f .before .before .before in let a = k .before .before .args in
-    c .before .before .put-chunk .last .0 ≡ storeOf 8 (a .order) (own (a .order)) (now (a .words)) (a .word * 8 + a .head .0) (k .of .result .first) (f .first-of .result))
+    c .before .before .put-chunk .last .0 ≡ storeOf W (a .order) (own (a .order)) (now (a .words)) (a .word * W + a .head .0) (k .of .result .first) (f .first-of .result))
 front c =
     let w = c .before .before .before .before in
     let f = w .before in
@@ -24,8 +25,8 @@ front c =
     let k = x .before .before in
     let a = k .before .before .args in
     let o = a .order in
-    c .before .before .put-chunk .ensures ∙ ap (storeOf 8 o (own o) (now (a .words)) (a .word * 8) chunk) (w .with-piece .ensures .0)
-    ∙ chunk-stored 8 (lit< tt) o (now (a .words)) (a .word) chunk (x .chunk-at .ensures .0) (a .head .0) (k .of .result .first) (omega arith) (x .chunk-at .ensures .1) (f .first-of .result) (omega arith)
+    c .before .before .put-chunk .ensures ∙ ap (storeOf W o (own o) (now (a .words)) (a .word * W) chunk) (w .with-piece .ensures .0)
+    ∙ chunk-stored W (lit< tt) o (now (a .words)) (a .word) chunk (x .chunk-at .ensures .0) (a .head .0) (k .of .result .first) (omega arith) (x .chunk-at .ensures .1) (f .first-of .result) (omega arith)
 
 of-requires : tie.Need-of-requires
 of-requires c κs = search needs
@@ -57,8 +58,8 @@ returns c = let d = c .before in
     let none : r .last ≡ 0 = omega arith in
     let all : r .first ≡ a .len = omega arith in
     let v : f .first-of .result ≡ a .v = f .first-of .ensures ∙ ap (firstOf (a .significance) (a .v)) none ∙ first-all (a .significance) (a .v) in
-    front d ∙ ap₂ (λ (n x : ℕ). storeOf 8 o (own o) (now (a .words)) (a .word * 8 + a .head .0) n x) all v
-    ∙ ap (λ (e : Significance). storeOf 8 o e (now (a .words)) (a .word * 8 + a .head .0) (a .len) (a .v)) (sym s)
+    front d ∙ ap₂ (λ (n x : ℕ). storeOf W o (own o) (now (a .words)) (a .word * W + a .head .0) n x) all v
+    ∙ ap (λ (e : Significance). storeOf W o e (now (a .words)) (a .word * W + a .head .0) (a .len) (a .v)) (sym s)
 
 rest-of-requires : tie.Need-rest-of-requires
 rest-of-requires c κs = search needs
@@ -73,7 +74,7 @@ put-piece-requires c κs = let d = c .before .before .before in
     let cuts = k .of .ensures .all in
     let a = k .before .before .args in
     let e = k .of .ensures .edge (omega arith) in
-    let n : length (d .before .before .put-chunk .last .0) ≡ length (now (a .words)) = ap length (d .before .before .put-chunk .ensures) ∙ length-store 8 _ _ _ _ _ _ in
+    let n : length (d .before .before .put-chunk .last .0) ≡ length (now (a .words)) = ap length (d .before .before .put-chunk .ensures) ∙ length-store W _ _ _ _ _ _ in
     (omega arith, omega arith, omega arith)
 
 same-length-2 : tie.Need-same-length-2
@@ -91,10 +92,10 @@ returns-2 c = let p = c .before .before in
     let s = k .before .before .pre .5 in
     let cuts = k .of .ensures .all in
     let e = k .of .ensures .edge (omega arith) in
-    chunk-rest 8 (lit< tt) o (now (a .words)) (a .word) (a .head .0) (r .first) (r .last) (chunk / 8) chunk refl e (a .v)
-    (front d ∙ ap (storeOf 8 o (own o) (now (a .words)) (a .word * 8 + a .head .0) (r .first)) (f .first-of .ensures ∙ ap (λ (g : Significance). firstOf g (a .v) (r .last)) s))
-    (p .put-piece .ensures (own o) ∙ ap (storeOf 8 o (own o) (d .before .before .put-chunk .last .0) ((a .word + chunk / 8) * 8 + 0) (r .last)) (b .rest-of .ensures ∙ ap (λ (g : Significance). restOf g (a .v) (r .first)) s))
-    ∙ ap₂ (λ (g : Significance) (n : ℕ). storeOf 8 o g (now (a .words)) (a .word * 8 + a .head .0) n (a .v)) (sym s) (omega arith)
+    chunk-rest W (lit< tt) o (now (a .words)) (a .word) (a .head .0) (r .first) (r .last) (chunk / W) chunk refl e (a .v)
+    (front d ∙ ap (storeOf W o (own o) (now (a .words)) (a .word * W + a .head .0) (r .first)) (f .first-of .ensures ∙ ap (λ (g : Significance). firstOf g (a .v) (r .last)) s))
+    (p .put-piece .ensures (own o) ∙ ap (storeOf W o (own o) (d .before .before .put-chunk .last .0) ((a .word + chunk / W) * W + 0) (r .last)) (b .rest-of .ensures ∙ ap (λ (g : Significance). restOf g (a .v) (r .first)) s))
+    ∙ ap₂ (λ (g : Significance) (n : ℕ). storeOf W o g (now (a .words)) (a .word * W + a .head .0) n (a .v)) (sym s) (omega arith)
 
 pub store-near-spec : {M : Type 1} → statement M
 store-near-spec =

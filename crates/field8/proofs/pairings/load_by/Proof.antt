@@ -3,14 +3,15 @@ use borrow.Author.Needs.{needs}
 use native.Mathlib.Omega.{arith}
 use mathlib.Core.Path.{refl}
 use Prim.Native.Nat.{_+_, _≤_, _<_}
+use Rattle.word8.specs.Width.{W}
 use Rattle.rules.proofs.Chunk.{own}
 use Rattle.field8.proofs.pairings.load_by.Statement.{statement}
 use Rattle.field8.proofs.pairings.load_by.Tie as tie
 
-inside : (c : tie.Then1) → (let a = c .before .before .before .args in a .head .0 + a .len ≤ 8)
+inside : (c : tie.Then1) → (let a = c .before .before .before .args in a .head .0 + a .len ≤ W)
 inside c = c .before .ends-within .ensures .0 (c .if1 .taken)
 
-beyond : (c : tie.Else1) → (let a = c .before .before .before .args in 8 < a .head .0 + a .len)
+beyond : (c : tie.Else1) → (let a = c .before .before .before .args in W < a .head .0 + a .len)
 beyond c = c .before .ends-within .ensures .1 (c .if1 .left)
 
 ends-within-requires : tie.Need-ends-within-requires

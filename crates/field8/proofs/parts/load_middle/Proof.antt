@@ -7,6 +7,7 @@ use lib.Dec.{lit<}
 use lib.ListN.{length, take, drop, length-drop}
 use lib.Seq.{length-take-le}
 use denote.Ref.{now}
+use Rattle.word8.specs.Width.{W}
 use Rattle.rules.specs.Fields.{loadOf}
 use Rattle.rules.proofs.Wholes.{load-part}
 use Rattle.field8.proofs.parts.load_middle.Statement.{statement}
@@ -32,8 +33,8 @@ returns c = let a = c .before .before .before .args in
     let l = a .start + a .whole - a .start in
     let part = take l (drop (a .start) (now (a .words))) in
     let len : length part ≡ a .whole = length-take-le l (drop (a .start) (now (a .words))) (simp length-drop (omega arith)) ∙ omega arith in
-    λ o. c .load-whole .ensures o ∙ ap (λ (n : ℕ). loadOf 8 o (a .significance) part 0 (n * 8)) len
-    ∙ load-part 8 (lit< tt) o (a .significance) (now (a .words)) (a .start) l (a .whole * 8) (omega arith)
+    λ o. c .load-whole .ensures o ∙ ap (λ (n : ℕ). loadOf W o (a .significance) part 0 (n * W)) len
+    ∙ load-part W (lit< tt) o (a .significance) (now (a .words)) (a .start) l (a .whole * W) (omega arith)
 
 pub load-middle-spec : {M : Type 1} → statement M
 load-middle-spec =

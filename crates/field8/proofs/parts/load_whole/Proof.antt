@@ -4,6 +4,7 @@ use mathlib.Core.Path.{_≡_, ap, _∙_}
 use Prim.Native.Nat.{ℕ, _+_, _-_, _*_, _≤_}
 use lib.Dec.{lit<}
 use lib.ListN.{length}
+use Rattle.word8.specs.Width.{W}
 use Rattle.rules.specs.declared.Order.{Order}
 use Rattle.rules.specs.declared.Order.the-variants.{Lsb0}
 use Rattle.rules.specs.Fields.{loadOf}
@@ -14,13 +15,13 @@ use Rattle.field8.proofs.parts.load_whole.Statement.{statement}
 use Rattle.field8.proofs.parts.load_whole.Tie as tie
 
 abbrev Inv-loop : tie.InvT-loop
-Inv-loop part significance n x₀ i₀ x i = (i ≤ n) × ((o : Order) → x ≡ loadOf 8 o significance part 0 (i * 8))
+Inv-loop part significance n x₀ i₀ x i = (i ≤ n) × ((o : Order) → x ≡ loadOf W o significance part 0 (i * W))
 
 abbrev μ-loop : tie.MeasureT-loop
 μ-loop part significance n x₀ i₀ x i = n - i
 
 loop-holds : tie.Need-loop-holds Inv-loop μ-loop
-loop-holds c = (omega arith, λ o. load-none 8 o _ _ 0)
+loop-holds c = (omega arith, λ o. load-none W o _ _ 0)
 
 word-at-requires : tie.Need-word-at-requires Inv-loop μ-loop
 word-at-requires c κs = omega arith
@@ -31,7 +32,7 @@ mul-join c = omega arith
 join-requires : tie.Need-join-requires Inv-loop μ-loop
 join-requires c κs = let l = c .before .before .loop in
     let a = c .before .before .before .before .args in
-    (omega arith, omega arith, omega arith, rw (l .inv .1 Lsb0) (load-lt 8 (lit< tt) Lsb0 (a .significance) (a .part .now) 0 (l .i * 8)), c .word-at .ensures .1)
+    (omega arith, omega arith, omega arith, rw (l .inv .1 Lsb0) (load-lt W (lit< tt) Lsb0 (a .significance) (a .part .now) 0 (l .i * W)), c .word-at .ensures .1)
 
 add-i : tie.Need-add-i Inv-loop μ-loop
 add-i c = omega arith
@@ -44,15 +45,15 @@ loop-again c = let b = c .before .before .before .before in
     let a = b .before .args in
     let l = c .before .before .before .loop in (
       omega arith,
-      λ o. c .join .ensures ∙ ap (λ (w : ℕ). joined (a .significance) (l .x) (l .i * 8) w 8) (c .before .word-at .ensures .0)
-          ∙ load-more 8 (lit< tt) o (a .significance) (a .part .now) (λ k. b .shared-slice-known .given k .fits) (l .i) (l .inv .1 o),
+      λ o. c .join .ensures ∙ ap (λ (w : ℕ). joined (a .significance) (l .x) (l .i * W) w W) (c .before .word-at .ensures .0)
+          ∙ load-more W (lit< tt) o (a .significance) (a .part .now) (λ k. b .shared-slice-known .given k .fits) (l .i) (l .inv .1 o),
     )
 
 returns : tie.Need-returns Inv-loop μ-loop
 returns c = let a = c .before .before .before .args in
     let l = c .before .loop in
     let all : l .i ≡ length (a .part .now) = omega arith in
-    λ o. l .inv .1 o ∙ ap (λ (n : ℕ). loadOf 8 o (a .significance) (a .part .now) 0 (n * 8)) all
+    λ o. l .inv .1 o ∙ ap (λ (n : ℕ). loadOf W o (a .significance) (a .part .now) 0 (n * W)) all
 
 pub load-whole-spec : {M : Type 1} → statement M
 load-whole-spec =

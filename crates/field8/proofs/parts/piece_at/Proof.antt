@@ -5,6 +5,7 @@ use mathlib.Core.Path.{_≡_, ap, _∙_}
 use Prim.Native.Nat.{ℕ}
 use lib.Dec.{lit<}
 use denote.Ref.{now}
+use Rattle.word8.specs.Width.{W}
 use Rattle.rules.proofs.Cuts.{pieceOf, load-piece}
 use Rattle.field8.proofs.parts.piece_at.Statement.{statement}
 use Rattle.field8.proofs.parts.piece_at.Tie as tie
@@ -18,8 +19,8 @@ piece-requires c κs = search needs
 returns : tie.Need-returns
 returns c = let a = c .before .before .before .args in
     let p = c .piece .ensures in (
-      λ e. p .0 ∙ ap (λ (x : ℕ). pieceOf 8 x (a .order) (a .head .0) (a .n)) (c .before .word-at .ensures .0)
-          ∙ load-piece 8 (lit< tt) (a .order) e (now (a .words)) (a .word) (a .head .0) (a .n) (omega arith),
+      λ e. p .0 ∙ ap (λ (x : ℕ). pieceOf W x (a .order) (a .head .0) (a .n)) (c .before .word-at .ensures .0)
+          ∙ load-piece W (lit< tt) (a .order) e (now (a .words)) (a .word) (a .head .0) (a .n) (omega arith),
       p .1,
     )
 

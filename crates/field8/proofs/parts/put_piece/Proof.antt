@@ -7,6 +7,7 @@ use Prim.Native.Nat.{ℕ, _%_, _^_}
 use lib.Dec.{lit<}
 use lib.ListN.{set}
 use denote.Ref.{now}
+use Rattle.word8.specs.Width.{W}
 use Rattle.rules.proofs.Field.{lowest}
 use Rattle.rules.proofs.Chunk.{masked, store-one}
 use Rattle.field8.proofs.parts.put_piece.Statement.{statement}
@@ -29,10 +30,10 @@ returns c = let d = c .before .before .before .before in
     let b = d .before .before .before in
     let a = b .before .args in
     let v = d .with-piece .ensures in
-    let x : d .with-piece .result % 2 ^ 8 ≡ d .with-piece .result = mod-eq-of-lt (v .1) in
-    let y : d .with-piece .result ≡ masked 8 _ (lowest 8 (a .order) (a .head .0) (a .n)) (a .n) (a .v) = v .0 in
-    λ e. c .before .before .put-word .ensures ∙ ap (set (now (a .words)) (a .word)) (x ∙ y ∙ ap (λ (z : ℕ). masked 8 z (lowest 8 (a .order) (a .head .0) (a .n)) (a .n) (a .v)) (d .before .word-at .ensures .0))
-    ∙ store-one 8 (lit< tt) (a .order) e (now (a .words)) (a .word) (omega arith) (λ k. b .slice-known .given k .fits) (a .head .0) (a .n) (omega arith) (a .v)
+    let x : d .with-piece .result % 2 ^ W ≡ d .with-piece .result = mod-eq-of-lt (v .1) in
+    let y : d .with-piece .result ≡ masked W _ (lowest W (a .order) (a .head .0) (a .n)) (a .n) (a .v) = v .0 in
+    λ e. c .before .before .put-word .ensures ∙ ap (set (now (a .words)) (a .word)) (x ∙ y ∙ ap (λ (z : ℕ). masked W z (lowest W (a .order) (a .head .0) (a .n)) (a .n) (a .v)) (d .before .word-at .ensures .0))
+    ∙ store-one W (lit< tt) (a .order) e (now (a .words)) (a .word) (omega arith) (λ k. b .slice-known .given k .fits) (a .head .0) (a .n) (omega arith) (a .v)
 
 pub put-piece-spec : {M : Type 1} → statement M
 put-piece-spec =

@@ -4,6 +4,7 @@ use mathlib.Core.Path.{_≡_, refl, ap, ap₂, _∙_}
 use Prim.Native.Nat.{ℕ, _+_, _-_, _*_, _%_, _^_, _≤_}
 use lib.Dec.{lit<}
 use lib.ListN.{length, set, length-set}
+use Rattle.word8.specs.Width.{W}
 use Rattle.rules.specs.declared.Order.{Order}
 use Rattle.rules.specs.Fields.{storeOf}
 use Rattle.rules.proofs.Cuts.{firstOf, restOf, first-all, store-none}
@@ -13,14 +14,14 @@ use Rattle.field8.proofs.parts.store_whole.Tie as tie
 
 abbrev Inv-loop : tie.InvT-loop
 Inv-loop part₀ significance v n i₀ part i =
-    (i ≤ length part₀) × (length part ≡ length part₀) × ((o : Order) → part ≡ storeOf 8 o significance part₀ 0 (i * 8) (firstOf significance v ((n - i) * 8)))
+    (i ≤ length part₀) × (length part ≡ length part₀) × ((o : Order) → part ≡ storeOf W o significance part₀ 0 (i * W) (firstOf significance v ((n - i) * W)))
 
 abbrev μ-loop : tie.MeasureT-loop
 μ-loop part₀ significance v n i₀ part i = n - i
 
 loop-holds : tie.Need-loop-holds Inv-loop μ-loop
 loop-holds c = let a = c .before .args in
-    (omega arith, refl, λ o. store-none 8 (lit< tt) o (a .significance) (a .part .now) (λ k. c .slice-known .given k .fits) 0 (firstOf (a .significance) (a .v) ((length (a .part .now) - 0) * 8)))
+    (omega arith, refl, λ o. store-none W (lit< tt) o (a .significance) (a .part .now) (λ k. c .slice-known .given k .fits) 0 (firstOf (a .significance) (a .v) ((length (a .part .now) - 0) * W)))
 
 sub-first-of : tie.Need-sub-first-of Inv-loop μ-loop
 sub-first-of c = omega arith
@@ -55,15 +56,15 @@ loop-again c = let p = c .before .before in
     let l = r .before .before .before .loop in
     let a = r .before .before .before .before .before .args in
     let n = length (a .part .now) in
-    let m = (n - 1 - l .i) * 8 in
-    let more : (n - l .i) * 8 ≡ m + 8 = omega arith in
-    let same : m ≡ (n - (l .i + 1)) * 8 = omega arith in
+    let m = (n - 1 - l .i) * W in
+    let more : (n - l .i) * W ≡ m + W = omega arith in
+    let same : m ≡ (n - (l .i + 1)) * W = omega arith in
     let put = p .put-word .ensures in (
       omega arith,
       ap length put ∙ length-set (l .part) (l .i) _ ∙ l .inv .1,
-      λ o. put ∙ ap (λ (x : ℕ). set (l .part) (l .i) (x % 2 ^ 8)) (r .rest-of .ensures ∙ ap (λ (x : ℕ). restOf (a .significance) x (l .i * 8)) (r .before .first-of .ensures))
-          ∙ store-more 8 (lit< tt) o (a .significance) (a .part .now) (l .i) m (a .v) (omega arith) (l .inv .2 o ∙ ap (λ (x : ℕ). storeOf 8 o (a .significance) (a .part .now) 0 (l .i * 8) (firstOf (a .significance) (a .v) x)) more)
-          ∙ ap (λ (x : ℕ). storeOf 8 o (a .significance) (a .part .now) 0 ((l .i + 1) * 8) (firstOf (a .significance) (a .v) x)) same,
+      λ o. put ∙ ap (λ (x : ℕ). set (l .part) (l .i) (x % 2 ^ W)) (r .rest-of .ensures ∙ ap (λ (x : ℕ). restOf (a .significance) x (l .i * W)) (r .before .first-of .ensures))
+          ∙ store-more W (lit< tt) o (a .significance) (a .part .now) (l .i) m (a .v) (omega arith) (l .inv .2 o ∙ ap (λ (x : ℕ). storeOf W o (a .significance) (a .part .now) 0 (l .i * W) (firstOf (a .significance) (a .v) x)) more)
+          ∙ ap (λ (x : ℕ). storeOf W o (a .significance) (a .part .now) 0 ((l .i + 1) * W) (firstOf (a .significance) (a .v) x)) same,
     )
 
 same-length : tie.Need-same-length Inv-loop μ-loop
@@ -74,9 +75,9 @@ returns c = let a = c .before .before .before .args in
     let l = c .before .loop in
     let n = length (a .part .now) in
     let all : l .i ≡ n = omega arith in
-    let none : (n - l .i) * 8 ≡ 0 = omega arith in
-    λ o. l .inv .2 o ∙ ap₂ (λ (x y : ℕ). storeOf 8 o (a .significance) (a .part .now) 0 (x * 8) (firstOf (a .significance) (a .v) y)) all none
-    ∙ ap (storeOf 8 o (a .significance) (a .part .now) 0 (n * 8)) (first-all (a .significance) (a .v))
+    let none : (n - l .i) * W ≡ 0 = omega arith in
+    λ o. l .inv .2 o ∙ ap₂ (λ (x y : ℕ). storeOf W o (a .significance) (a .part .now) 0 (x * W) (firstOf (a .significance) (a .v) y)) all none
+    ∙ ap (storeOf W o (a .significance) (a .part .now) 0 (n * W)) (first-all (a .significance) (a .v))
 
 pub store-whole-spec : {M : Type 1} → statement M
 store-whole-spec =

@@ -16,6 +16,7 @@ abbrev μ-loop : tie.MeasureT-loop
 loop-holds : tie.Need-loop-holds Inv-loop μ-loop
 loop-holds c = (omega arith, gathered-none (c .args .f) (c .args .words .now))
 
+-- asked above 8 bits
 mul-v : tie.Need-mul-v Inv-loop μ-loop
 mul-v c = omega arith
 

@@ -20,6 +20,7 @@ sub-loop c = omega arith
 sub-j : tie.Need-sub-j Inv-loop μ-loop
 sub-j c = omega arith
 
+-- asked above 8 bits
 mul-gather : tie.Need-mul-gather Inv-loop μ-loop
 mul-gather c = omega arith
 

@@ -1,0 +1,102 @@
+-- `boolean32::boolean` refuses by its table, and else combines as many bits as both sides have and then the rest of the left with none.
+use mathlib.Core.Path.{_≡_, refl, sym, _∙_}
+use Prim.Native.Nat.{ℕ, _+_, _*_}
+use native.Mathlib.Omega.{arith}
+use lib.ListN.{length}
+use lib.Dec.{lit<}
+use borrow.Author.Needs.{needs}
+use denote.Ref.{now}
+use Rattle.word32.specs.Width.{W}
+use Rattle.rules.specs.declared.Verdict.the-variants.{Fine}
+use Rattle.rules.specs.Positions.{row}
+use Rattle.rules.specs.Refusals.{verdict, pairCases}
+use Rattle.rules.proofs.Combine.{until, until-in, until-out, combined-short}
+use Rattle.rules.proofs.Accepted.{Pair, fine-pair}
+use Rattle.rules.proofs.RowCalls.{boolean-refused, boolean-done}
+use Rattle.boolean32.proofs.boolean.Statement.{statement}
+use Rattle.boolean32.proofs.boolean.Tie as tie
+use Rattle.rules.proofs.OneAnswer.{judged}
+
+fine : (c : tie.After-enum-told) → (let a = c .before .before .before .before .before .args in verdict (pairCases W (length (now (a .words))) (a .span) (length (now (a .right))) (a .right-span)) ≡ Fine)
+fine c = sym (judged (c .before .before .check-pair .ensures)) ∙ c .enum-told .given .1
+
+held : (c : tie.After-enum-told) → (let a = c .before .before .before .before .before .args in Pair W (length (now (a .words))) (a .span) (length (now (a .right))) (a .right-span))
+held c = fine-pair W _ _ _ _ (fine c)
+
+check-pair-requires : tie.Need-check-pair-requires
+check-pair-requires c κs = search needs
+
+enum-known-verdict : tie.Need-enum-known-verdict
+enum-known-verdict c = search needs
+
+enum-told : tie.Need-enum-told
+enum-told c = search needs
+
+mul-d : tie.Need-mul-d
+mul-d c = let h = held (c .before) in let l = h .left in let r = h .right in omega arith
+
+add-d : tie.Need-add-d
+add-d c = let h = held (c .before .before) in let l = h .left in let r = h .right in omega arith
+
+mul-s : tie.Need-mul-s
+mul-s c = let h = held (c .before .before .before) in let l = h .left in let r = h .right in omega arith
+
+add-s : tie.Need-add-s
+add-s c = let h = held (c .before .before .before .before) in let l = h .left in let r = h .right in omega arith
+
+least-requires : tie.Need-least-requires
+least-requires c κs = search needs
+
+between-requires : tie.Need-between-requires
+between-requires c κs = let h = held (c .before .before .before .before .before .before) in let l = h .left in let r = h .right in omega arith
+
+add-rest : tie.Need-add-rest
+add-rest c = let h = held (c .before .before .before .before .before .before .before .before .before .before) in let l = h .left in let r = h .right in omega arith
+
+sub-rest : tie.Need-sub-rest
+sub-rest c = search needs
+
+rest-requires : tie.Need-rest-requires
+rest-requires c κs = let h = held (c .before .before .before .before .before .before .before .before .before .before) in let l = h .left in let r = h .right in omega arith
+
+returns : tie.Need-returns
+returns c = boolean-refused W (lit< tt) _ _ _ _ _ _ (sym (judged (c .before .before .before .check-pair .ensures)) ∙ c .before .verdict .given .1) refl
+
+same-length : tie.Need-same-length
+same-length c = search needs
+
+returns-2 : tie.Need-returns-2
+returns-2 c =
+    let rest = c .before .before in
+    let main = rest .before .before .before .before in
+    let at-least = main .before .before in
+    let told = at-least .before .before .before .before .before in
+    let a = told .before .before .before .before .before .args in
+    let h = held told in
+    let l = h .left in
+    let d = a .span .word * W + a .span .head .0 in
+    let from : ℕ → ℕ = λ i. row W (a .span .order) (now (a .right)) (a .right-span .word * W + a .right-span .head .0 + i) in
+    boolean-done W (lit< tt) (a .operation) (now (a .words)) (a .span) (now (a .right)) (a .right-span) (until (a .right-span .len) from) (fine told)
+    (combined-short W (lit< tt) (a .span .order) (now (a .words)) d (a .operation) (a .span .len) (a .right-span .len) (at-least .least .result) from (at-least .least .ensures) (omega arith)
+    (main .between .ensures) (rest .rest .ensures))
+    (until-in (a .right-span .len) from) (until-out (a .right-span .len) from)
+
+pub boolean-spec : {M : Type 1} → statement M
+boolean-spec =
+    tie.close
+    (tie.spec
+    check-pair-requires
+    enum-known-verdict
+    enum-told
+    mul-d
+    add-d
+    mul-s
+    add-s
+    least-requires
+    between-requires
+    add-rest
+    sub-rest
+    rest-requires
+    returns
+    same-length
+    returns-2)

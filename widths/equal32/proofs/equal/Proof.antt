@@ -1,0 +1,86 @@
+-- `equal32::equal` refuses by its table, and else answers by the lengths and the bits.
+use mathlib.Core.Path.{_≡_, refl, sym, _∙_}
+use mathlib.Core.Bool.{true, false}
+use native.Mathlib.Omega.{arith}
+use lib.ListN.{length}
+use borrow.Author.Needs.{needs}
+use denote.Ref.{now}
+use Rattle.word32.specs.Width.{W}
+use Rattle.rules.specs.declared.Verdict.the-variants.{Fine}
+use Rattle.rules.specs.Positions.{row}
+use Rattle.rules.specs.Refusals.{verdict, pairCases}
+use Rattle.rules.proofs.Accepted.{Pair, fine-pair}
+use Rattle.rules.proofs.RowCalls.{equal-refused, equal-lengths, equal-bits}
+use Rattle.equal32.proofs.equal.Statement.{statement}
+use Rattle.equal32.proofs.equal.Tie as tie
+use Rattle.rules.proofs.OneAnswer.{judged}
+
+fine : (c : tie.After-enum-told) → (let a = c .before .before .before .before .before .args in verdict (pairCases W (length (now (a .left))) (a .left-span) (length (now (a .right))) (a .right-span)) ≡ Fine)
+fine c = sym (judged (c .before .before .check-pair .ensures)) ∙ c .enum-told .given .1
+
+held : (c : tie.After-enum-told) → (let a = c .before .before .before .before .before .args in Pair W (length (now (a .left))) (a .left-span) (length (now (a .right))) (a .right-span))
+held c = fine-pair W _ _ _ _ (fine c)
+
+check-pair-requires : tie.Need-check-pair-requires
+check-pair-requires c κs = search needs
+
+enum-known-verdict : tie.Need-enum-known-verdict
+enum-known-verdict c = search needs
+
+enum-told : tie.Need-enum-told
+enum-told c = search needs
+
+returns : tie.Need-returns
+returns c =
+    let told = c .before .before .before in
+    let a = told .before .before .before .before .before .args in
+    equal-lengths W (now (a .left)) (a .left-span) (now (a .right)) (a .right-span) (fine told) (c .if1 .taken)
+
+mul-p : tie.Need-mul-p
+mul-p c = let h = held (c .before .before .before .before) in let l = h .left in let r = h .right in omega arith
+
+add-p : tie.Need-add-p
+add-p c = let h = held (c .before .before .before .before .before) in let l = h .left in let r = h .right in omega arith
+
+mul-q : tie.Need-mul-q
+mul-q c = let h = held (c .before .before .before .before .before .before) in let l = h .left in let r = h .right in omega arith
+
+add-q : tie.Need-add-q
+add-q c = let h = held (c .before .before .before .before .before .before .before) in let l = h .left in let r = h .right in omega arith
+
+equal-row-requires : tie.Need-equal-row-requires
+equal-row-requires c κs = let h = held (c .before .before .before .before .before .before .before) in let l = h .left in let r = h .right in omega arith
+
+returns-2 : tie.Need-returns-2
+returns-2 c = equal-refused W _ _ _ _ _ (sym (judged (c .before .before .before .check-pair .ensures)) ∙ c .before .verdict .given .1)
+
+returns-3 : tie.Need-returns-3
+returns-3 c =
+    let row = c .before in
+    let told = row .before .before .before .before .before .before .before .before in
+    let a = told .before .before .before .before .before .args in
+    equal-bits W (now (a .left)) (a .left-span) (now (a .right)) (a .right-span) true (fine told) (omega arith) refl (sym (c .if2 .taken) ∙ row .equal-row .ensures)
+
+returns-4 : tie.Need-returns-4
+returns-4 c =
+    let row = c .before in
+    let told = row .before .before .before .before .before .before .before .before in
+    let a = told .before .before .before .before .before .args in
+    equal-bits W (now (a .left)) (a .left-span) (now (a .right)) (a .right-span) false (fine told) (omega arith) refl (sym (c .if2 .left) ∙ row .equal-row .ensures)
+
+pub equal-spec : {M : Type 1} → statement M
+equal-spec =
+    tie.close
+    (tie.spec
+    check-pair-requires
+    enum-known-verdict
+    enum-told
+    returns
+    mul-p
+    add-p
+    mul-q
+    add-q
+    equal-row-requires
+    returns-2
+    returns-3
+    returns-4)

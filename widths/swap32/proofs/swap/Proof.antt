@@ -1,0 +1,78 @@
+-- `swap32::swap` refuses by its table, and else exchanges the rows of the two spans.
+use mathlib.Core.Path.{_≡_, sym, _∙_}
+use native.Mathlib.Omega.{arith}
+use lib.ListN.{length}
+use borrow.Author.Needs.{needs}
+use denote.Ref.{now}
+use Rattle.word32.specs.Width.{W}
+use Rattle.rules.specs.declared.Verdict.the-variants.{Fine}
+use Rattle.rules.specs.Positions.{row}
+use Rattle.rules.specs.Refusals.{verdict, copyCases}
+use Rattle.rules.proofs.Accepted.{Copy, fine-copy}
+use Rattle.rules.proofs.RowCalls.{swap-refused, swap-done}
+use Rattle.swap32.proofs.swap.Statement.{statement}
+use Rattle.swap32.proofs.swap.Tie as tie
+use Rattle.rules.proofs.OneAnswer.{judged}
+
+fine : (c : tie.After-enum-told) → (let a = c .before .before .before .before .before .args in verdict (copyCases W (length (now (a .left))) (a .left-span) (length (now (a .right))) (a .right-span)) ≡ Fine)
+fine c = sym (judged (c .before .before .check-copy .ensures)) ∙ c .enum-told .given .1
+
+held : (c : tie.After-enum-told) → (let a = c .before .before .before .before .before .args in Copy W (length (now (a .left))) (a .left-span) (length (now (a .right))) (a .right-span))
+held c = fine-copy W _ _ _ _ (fine c)
+
+check-copy-requires : tie.Need-check-copy-requires
+check-copy-requires c κs = search needs
+
+enum-known-verdict : tie.Need-enum-known-verdict
+enum-known-verdict c = search needs
+
+enum-told : tie.Need-enum-told
+enum-told c = search needs
+
+mul-d : tie.Need-mul-d
+mul-d c = let h = held (c .before) in let p = h .pair in let l = p .left in let r = p .right in omega arith
+
+add-d : tie.Need-add-d
+add-d c = let h = held (c .before .before) in let p = h .pair in let l = p .left in let r = p .right in omega arith
+
+mul-s : tie.Need-mul-s
+mul-s c = let h = held (c .before .before .before) in let p = h .pair in let l = p .left in let r = p .right in omega arith
+
+add-s : tie.Need-add-s
+add-s c = let h = held (c .before .before .before .before) in let p = h .pair in let l = p .left in let r = p .right in omega arith
+
+swap-row-requires : tie.Need-swap-row-requires
+swap-row-requires c κs = let h = held (c .before .before .before .before .before .before) in let p = h .pair in let l = p .left in let r = p .right in omega arith
+
+returns : tie.Need-returns
+returns c = swap-refused W _ _ _ _ _ (sym (judged (c .before .before .before .check-copy .ensures)) ∙ c .before .verdict .given .1)
+
+same-length : tie.Need-same-length
+same-length c = search needs
+
+same-length-2 : tie.Need-same-length-2
+same-length-2 c = search needs
+
+returns-2 : tie.Need-returns-2
+returns-2 c =
+    let row = c .before .before .before .before in
+    let told = row .before .before .before .before .before .before .before in
+    let a = told .before .before .before .before .before .args in
+    swap-done W (now (a .left)) (a .left-span) (now (a .right)) (a .right-span) (fine told) (row .swap-row .ensures .0) (row .swap-row .ensures .1)
+
+pub swap-spec : {M : Type 1} → statement M
+swap-spec =
+    tie.close
+    (tie.spec
+    check-copy-requires
+    enum-known-verdict
+    enum-told
+    mul-d
+    add-d
+    mul-s
+    add-s
+    swap-row-requires
+    returns
+    same-length
+    same-length-2
+    returns-2)
