@@ -11,11 +11,12 @@ use Rattle.rules.specs.declared.Order.the-variants.{Lsb0}
 use Rattle.rules.specs.declared.Span.{Span}
 use Rattle.rules.specs.declared.Significance.the-variants.{Le}
 use Rattle.rules.specs.declared.Sign.the-variants.{Unsigned}
+use Rattle.rules.specs.Positions.{span}
 use Rattle.rules.specs.Calls.{Answer, refused, done, a-position, a-selector, a-mask, a-span, two-spans, a-bit, a-number, says-yes, says-no, found-at, absent, load, store, answer, after}
 
 -- the field of k bits at a head of a word
 abbrev pub fieldAt : ℕ → ℕ → ℕ → Span
-fieldAt word head k = record { order = Lsb0; word = word; head = record { 0 = head }; len = k }
+fieldAt word head k = span Lsb0 word head k
 
 -- the number that a load answers, 0 where it is refused
 abbrev pub unsignedOf : Answer → ℕ

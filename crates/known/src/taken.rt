@@ -1,5 +1,4 @@
 // What both widths take: the span of a field, the number that a load of it answers, and how numbers are mixed.
-use rules::Index;
 use rules::Number;
 use rules::NumberAnswer;
 use rules::Order;
@@ -12,12 +11,7 @@ ghost use Rattle.known.specs.Known.{fieldAt, unsignedOf, mixIn};
 pub fn field(word: usize, head: usize, k: usize) -> Span
     ensures { λ r. ⌜ r ≡ fieldAt word head k ⌝ }
 {
-    Span {
-        order: Order::Lsb0,
-        word,
-        head: Index(head),
-        len: k,
-    }
+    Span::new(Order::Lsb0, word, head, k)
 }
 
 // The number of an unsigned load, 0 where it is refused.

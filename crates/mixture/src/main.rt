@@ -2,7 +2,6 @@
 // positions 4 to 7 and works in Msb0. Each party gets the same answers and the same half of the byte in both runs.
 use requests::Request;
 use requests::Side;
-use rules::Index;
 use rules::Number;
 use rules::Operation;
 use rules::Order;
@@ -11,31 +10,16 @@ use rules::Significance;
 use rules::Span;
 
 fn low() -> Span {
-    Span {
-        order: Order::Lsb0,
-        word: 0,
-        head: Index(0),
-        len: 4,
-    }
+    Span::new(Order::Lsb0, 0, 0, 4)
 }
 
 fn high() -> Span {
-    Span {
-        order: Order::Msb0,
-        word: 0,
-        head: Index(0),
-        len: 4,
-    }
+    Span::new(Order::Msb0, 0, 0, 4)
 }
 
 // A span whose head is W: every call on it is refused.
 fn beyond() -> Span {
-    Span {
-        order: Order::Msb0,
-        word: 0,
-        head: Index(8),
-        len: 1,
-    }
+    Span::new(Order::Msb0, 0, 8, 1)
 }
 
 // Performs a request and prints what it answers.

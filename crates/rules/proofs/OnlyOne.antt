@@ -4,6 +4,7 @@ use Rattle.rules.proofs.OneAnswer.{only-verdict, whole-one, one-positio
 use Rattle.rules.proofs.Order.at.Reads as at
 use Rattle.rules.proofs.Order.select.Reads as select
 use Rattle.rules.proofs.Order.mask.Reads as mask
+use Rattle.rules.proofs.Span.new.Reads as new
 use Rattle.rules.proofs.Span.check.Reads as check
 use Rattle.rules.proofs.Span.check_place.Reads as check-place
 use Rattle.rules.proofs.Span.split.Reads as split
@@ -81,3 +82,6 @@ refusal-number-only κs a r r′ x x′ p q = p ∙ sym q
 
 operation-number-only : (κs a r r′ x x′ : _) → operation-number.Post κs a r x → operation-number.Post κs a r′ x′ → r ≡ r′
 operation-number-only κs a r r′ x x′ p q = p ∙ sym q
+
+new-only : (κs a r r′ x x′ : _) → new.Post κs a r x → new.Post κs a r′ x′ → r ≡ r′
+new-only κs a r r′ x x′ p q = p ∙ sym q

@@ -39,6 +39,10 @@ row W o ws j = bitAt W ws (mirror W o j)
 unfoldable pub fromRow : ℕ → Order → ℕ → (ℕ → ℕ) → List ℕ
 fromRow W o n g = fromBits W n (λ q. g (mirror W o q))
 
+-- the span of a length that begins at index `head` of a word: the one place where a span is made
+abbrev pub span : Order → ℕ → ℕ → ℕ → Span
+span o word head len = record { order = o; word = word; head = record { 0 = head }; len = len }
+
 -- the place of a span's first bit
 unfoldable pub start : ℕ → Span → ℕ
 start W s = s .word * W + s .head .0
@@ -53,12 +57,11 @@ inBounds W n s = leb (s .word * W + s .head .0 + s .len) (n * W)
 
 -- Split at p: the first p bits keep word and head. Shortening to p is this half.
 abbrev pub firstHalf : Span → ℕ → Span
-firstHalf s p = record { order = s .order; word = s .word; head = s .head; len = p }
+firstHalf s p = span (s .order) (s .word) (s .head .0) p
 
 -- The rest begins where bit p would, with length - p. Both keep the order. Shifting by p is this half.
 abbrev pub secondHalf : ℕ → Span → ℕ → Span
-secondHalf W s p =
-    record { order = s .order; word = s .word + (s .head .0 + p) / W; head = record { 0 = (s .head .0 + p) % W }; len = s .len - p }
+secondHalf W s p = span (s .order) (s .word + (s .head .0 + p) / W) ((s .head .0 + p) % W) (s .len - p)
 
 -- j is one of the n places from `at` on
 unfoldable pub within : ℕ → ℕ → ℕ → Bool

@@ -5,7 +5,7 @@ use mathlib.Core.List.{List, [], _∷_, map}
 use lib.IntN.{ℤ, pos, negsuc}
 use Rattle.rules.specs.Types.{Order, Lsb0, Msb0, Span, Le, Be, Unsigned, Signed}
 use Rattle.rules.specs.Bits.{bitN, ofBits, tabulate, bitAt, fromBits}
-use Rattle.rules.specs.Positions.{position, mirror, row, fromRow, start, spanBit, inBounds, within, over, spliced}
+use Rattle.rules.specs.Positions.{position, mirror, row, fromRow, span, start, spanBit, inBounds, within, over, spliced}
 use Rattle.rules.specs.Fields.{pieceFrom, pieceUpto, exponent, weigh, loadOf, signedOf, readAs, bitsOf, storeOf, isSize, isInteger}
 use Rattle.rules.specs.Rows.{moved, copiedWithin}
 use Rattle.rules.specs.Refusals.{verdict, spanCases, fieldCases, valueCases, loadCases, storeCases, withinCases}
@@ -13,7 +13,7 @@ use Rattle.rules.specs.Calls.{Answer, done, a-number, Call, load, store,
 
 -- a span in the first byte
 abbrev pub at-head : Order → ℕ → ℕ → Span
-at-head o head len = record { order = o; word = 0; head = record { 0 = head }; len = len }
+at-head o head len = span o 0 head len
 
 -- a request and the bytes that it is made on
 pub record Sample : Type 0 where

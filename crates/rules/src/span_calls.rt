@@ -1,6 +1,7 @@
-// Spans: refusals 1 to 3, split, shortening and shifting.
+// Spans: made from their parts, refusals 1 to 3, split, shortening and shifting.
 use crate::Halves;
 use crate::Index;
+use crate::Order;
 use crate::Refusal;
 use crate::Span;
 use crate::SpanAnswer;
@@ -9,15 +10,35 @@ use crate::Verdict;
 use crate::Width;
 ghost use mathlib.Core.Path.{_≡_};
 ghost use mathlib.Core.Bool.{not};
-ghost use Prim.Native.Nat.{_≤_, _<_};
+ghost use Prim.Native.Nat.{_*_, _≤_, _<_};
 ghost use Rattle.rules.specs.Types.{Fine};
 ghost use Rattle.rules.specs.Bits.{bits};
-ghost use Rattle.rules.specs.Positions.{inBounds, firstHalf, secondHalf};
+ghost use Rattle.rules.specs.Positions.{span, start, inBounds, firstHalf, secondHalf};
 ghost use Rattle.rules.specs.Refusals.{verdict, spanCases, splitCases};
 ghost use Rattle.rules.specs.Calls.{splitAnswer, shortenAnswer, shiftAnswer};
 ghost use Rattle.rules.specs.Answers.{Judges, splitSays, spanSays};
 
 impl Span {
+    // The span of `len` bits that begins at index `head` of a word. Spans are made here and nowhere else.
+    pub fn new(order: Order, word: usize, head: usize, len: usize) -> Span
+        ensures { λ r. ⌜ r ≡ span order word head len ⌝ }
+    {
+        Span {
+            order,
+            word,
+            head: Index(head),
+            len,
+        }
+    }
+
+    // The place of its first bit in the row of words of `width` bits, for a caller that has accepted the span.
+    pub fn start(self, width: usize) -> usize
+        requires { ⌜ (self .word ≤ 65536) × (self .head .0 < width) × (width ≤ 64) ⌝ }
+        ensures { λ r. ⌜ (r ≡ start width self) × (r < 65537 * width) ⌝ }
+    {
+        self.word * width + self.head.0
+    }
+
     // Whether a span is not in bounds, for a caller that has seen that 1 and 2 do not hold. Nothing is summed before it is known to be small, so any
     // numbers get an answer: where no word is left, there is room for no bit at head 0.
     fn is_outside(self, width: Width, lent: usize) -> bool
@@ -80,9 +101,8 @@ impl Span {
     fn first(self, p: usize) -> Span
         ensures { λ r. ⌜ r ≡ firstHalf self p ⌝ }
     {
-        let mut span = self;
-        span.len = p;
-        span
+        let order = self.order;
+        Span::new(order, self.word, self.head.0, p)
     }
 
     // What is left of an in-bounds span after its first p bits.
@@ -93,12 +113,10 @@ impl Span {
         let w = width.bits();
         let t = self.head.0 + p;
         let order = self.order;
-        Span {
-            order,
-            word: self.word + t / w,
-            head: Index(t % w),
-            len: self.len - p,
-        }
+        let word = self.word + t / w;
+        let head = t % w;
+        let len = self.len - p;
+        Span::new(order, word, head, len)
     }
 
     // The first p bits and the rest, which begins where bit p would; 1 to 3, and 10 where p is above the length.

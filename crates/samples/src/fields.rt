@@ -1,5 +1,4 @@
 // Fields in the bytes B4 6C F1, in both orders.
-use rules::Index;
 use rules::Number;
 use rules::Order;
 use rules::Sign;
@@ -177,12 +176,7 @@ fn values() {
 }
 
 fn at(order: Order, head: usize, len: usize) -> Span {
-    Span {
-        order,
-        word: 0,
-        head: Index(head),
-        len,
-    }
+    Span::new(order, 0, head, len)
 }
 
 // An unsigned number is shown in hexadecimal, a signed one in decimal.

@@ -1,5 +1,4 @@
 // The limits of spans: at, below and above each, and sums that pass 2^64. A span is written word:head+length.
-use rules::Index;
 use rules::Order;
 use rules::Span;
 use rules::Width;
@@ -146,12 +145,7 @@ fn cuts() {
 }
 
 fn at(word: usize, head: usize, len: usize) -> Span {
-    Span {
-        order: Order::Lsb0,
-        word,
-        head: Index(head),
-        len,
-    }
+    Span::new(Order::Lsb0, word, head, len)
 }
 
 fn check(name: &[u8], lent: usize, word: usize, head: usize, len: usize) {

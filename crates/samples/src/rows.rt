@@ -1,5 +1,4 @@
 // Rows: copies, boolean operations and comparisons of B4, the four searches, and rows at the limit of their length.
-use rules::Index;
 use rules::Operation;
 use rules::Order;
 use rules::Span;
@@ -38,12 +37,7 @@ pub fn run() {
 }
 
 fn at(order: Order, head: usize, len: usize) -> Span {
-    Span {
-        order,
-        word: 0,
-        head: Index(head),
-        len,
-    }
+    Span::new(order, 0, head, len)
 }
 
 fn copies() {

@@ -14,6 +14,7 @@ use Rattle.rules.specs.declared.Sign.the-variants.{Unsigned, Signed}
 use Rattle.rules.specs.declared.Number.{Number}
 use Rattle.rules.specs.declared.Number.the-variants.{Up, Down}
 use Rattle.rules.specs.declared.Span.{Span}
+use Rattle.rules.specs.Positions.{span}
 use Rattle.rules.specs.Fields.{bitsOf}
 use Rattle.rules.specs.Calls.{Answer, refused, done, a-position, a-selector, a-mask, a-span, two-spans, a-bit, a-number, says-yes, says-no, found-at, absent}
 
@@ -44,7 +45,7 @@ bitOf (suc c) = true
 
 -- a span's four arguments
 abbrev pub spanOf : ℕ → ℕ → ℕ → ℕ → Span
-spanOf order word head length = record { order = orderOf order; word = word; head = record { 0 = head }; len = length }
+spanOf order word head length = span (orderOf order) word head length
 
 -- every code with two cases is 0 or 1
 abbrev pub none : ℕ → Bool

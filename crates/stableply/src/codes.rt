@@ -1,5 +1,4 @@
 // From codes to the library's types, for callers that have seen that a code is 0 or 1.
-use rules::Index;
 use rules::Number;
 use rules::Order;
 use rules::Sign;
@@ -20,13 +19,7 @@ pub fn order_of(code: u8) -> Order
 pub fn span_of(order: u8, word: usize, head: usize, length: usize) -> Span
     ensures { λ r. ⌜ r ≡ spanOf order word head length ⌝ }
 {
-    let named = order_of(order);
-    Span {
-        order: named,
-        word,
-        head: Index(head),
-        len: length,
-    }
+    Span::new(order_of(order), word, head, length)
 }
 
 // A significance.

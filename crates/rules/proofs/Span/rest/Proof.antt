@@ -1,4 +1,4 @@
--- `Span::rest`: the sums of an accepted place stay in bounds, and the fields are those of the second half.
+-- `Span::rest`: the sums of an accepted place stay in bounds, and the parts are those of the second half.
 use borrow.Author.Needs.{needs}
 use Rattle.rules.proofs.Span.rest.Statement.{statement}
 use Rattle.rules.proofs.Span.rest.Tie as tie
@@ -18,23 +18,28 @@ bits-requires c κs = search needs
 add-t : tie.Need-add-t
 add-t c = let i = inside (c .before .before) in let a = c .before .before .args in omega (arith, room-fits (a .width) (a .lent) (i .lies .few))
 
-div-t8 : tie.Need-div-t8
-div-t8 c = rw (c .before .bits .ensures) (bits-pos (c .before .before .args .width))
+div-word : tie.Need-div-word
+div-word c = rw (c .before .bits .ensures) (bits-pos (c .before .before .args .width))
 
-add-t9 : tie.Need-add-t9
-add-t9 c =
+add-word : tie.Need-add-word
+add-word c =
     let i = inside (c .before .before .before) in
     let a = c .before .before .before .args in
     rw (c .before .before .bits .ensures) (omega (arith, word-upto (bits (a .width)) (a .self .word) (a .self .head .0 + a .p) {n = a .lent} (bits-pos (a .width)) (omega arith)))
 
-rem-t10 : tie.Need-rem-t10
-rem-t10 c = rw (c .before .before .bits .ensures) (bits-pos (c .before .before .before .args .width))
+rem-head : tie.Need-rem-head
+rem-head c = rw (c .before .before .bits .ensures) (bits-pos (c .before .before .before .args .width))
 
-sub-t12 : tie.Need-sub-t12
-sub-t12 c = inside (c .before .before .before .before) .upto
+sub-len : tie.Need-sub-len
+sub-len c = inside (c .before .before .before .before) .upto
+
+new-requires : tie.Need-new-requires
+new-requires c κs = search needs
 
 returns : tie.Need-returns
-returns c = rw (c .before .before .before .bits .ensures)
+returns c = rw (c .new .ensures, c .before .before .before .before .bits .ensures)
 
 pub rest-spec : {M : Type 1} → statement M
-rest-spec = tie.close (tie.spec bits-requires add-t div-t8 add-t9 rem-t10 sub-t12 returns)
+rest-spec =
+    tie.close
+    (tie.spec bits-requires add-t div-word add-word rem-head sub-len new-requires returns)
