@@ -1,5 +1,5 @@
-// Fields of the significance that goes with their order, Lsb0 le and Msb0 be, through a chunk that begins with their first word and a piece of
-// the word after it.
+// Fields whose significance goes with their order, le with Lsb0 and be with Msb0. Their bits follow each other as in one long number, so
+// they are read through a chunk of 64 bits that begins with their first word, and a piece of the word after the chunk.
 use crate::chunks::chunk_at;
 use crate::chunks::put_chunk;
 use crate::parts::piece_at;
@@ -20,7 +20,7 @@ ghost use Rattle.rules.specs.Fields.{loadOf, storeOf};
 ghost use Rattle.rules.proofs.Chunk.{own};
 ghost use Rattle.rules.proofs.Chunks.{chunk};
 
-// A load where the chunk is there.
+// The number that such a field holds, where the chunk lies within the lent words.
 pub fn load_near(
     words: &[Word],
     order: Order,
@@ -29,7 +29,8 @@ pub fn load_near(
     head: Index,
     len: usize,
 ) -> u64
-    requires { ⌜ (head .0 < W) × (1 ≤ len) × (len ≤ chunk) × (word * W + head .0 + len ≤ length (now words) * W) × (word * W + chunk ≤ length (now words) * W) × (significance ≡ own order) ⌝ }
+    requires { ⌜ (head .0 < W) × (1 ≤ len) × (len ≤ chunk) × (word * W + head .0 + len ≤ length (now words) * W)
+        × (word * W + chunk ≤ length (now words) * W) × (significance ≡ own order) ⌝ }
     ensures { λ r. ⌜ (r ≡ loadOf W order significance (now (words .entry)) (word * W + head .0) len) × (r < 2 ^ len) ⌝ }
 {
     let cut = Cut::of(CHUNK, head, len);
@@ -44,7 +45,7 @@ pub fn load_near(
     pieces::join(significance, a, first, b, last)
 }
 
-// A store where the chunk is there.
+// The low bits of a number, placed in such a field, where the chunk lies within the lent words.
 pub fn store_near(
     words: &mut [Word],
     order: Order,
@@ -54,7 +55,8 @@ pub fn store_near(
     len: usize,
     v: u64,
 )
-    requires { ⌜ (head .0 < W) × (1 ≤ len) × (len ≤ chunk) × (word * W + head .0 + len ≤ length (now words) * W) × (word * W + chunk ≤ length (now words) * W) × (significance ≡ own order) ⌝ }
+    requires { ⌜ (head .0 < W) × (1 ≤ len) × (len ≤ chunk) × (word * W + head .0 + len ≤ length (now words) * W)
+        × (word * W + chunk ≤ length (now words) * W) × (significance ≡ own order) ⌝ }
     ensures { λ _. ⌜ now (words .exit) ≡ storeOf W order significance (now (words .entry)) (word * W + head .0) len v ⌝ }
 {
     let cut = Cut::of(CHUNK, head, len);
@@ -71,7 +73,8 @@ pub fn store_near(
     put_piece(words, order, word + CHUNK / W, Index(0), last, b);
 }
 
-// Whether a chunk pays, where so many words are left: where it is more than one word, and there.
+// Whether to go through a chunk where so many words are left: it has to be more than one word, and all of it has to be there. For words of
+// 64 bits the answer is always no, and the code for it is left out.
 pub fn pays(room: usize) -> bool
     ensures { λ r. ⌜ (r ≡ true → chunk ≤ room * W) ⌝ }
 {

@@ -1,5 +1,5 @@
-// A field within one word, which has no significance to heed, and the four pairings of order and significance, each with its own constants.
-// Those of an order with its own significance go through a chunk where that pays.
+// The way of a field by what it is: a field within one word, which has no significance to heed, or one of the four pairings of order and
+// significance, each with its own constants.
 use crate::bits::load_bits;
 use crate::bits::store_bits;
 use crate::near::load_near;
@@ -19,7 +19,7 @@ ghost use Rattle.word64.specs.Width.{W};
 ghost use Rattle.rules.specs.Fields.{loadOf, storeOf};
 ghost use Rattle.rules.proofs.Chunks.{chunk};
 
-// A load, by its pairing where it has more than one piece.
+// The number that a field holds, for callers that know the span to be in bounds.
 pub fn load_by(
     words: &[Word],
     order: Order,
@@ -59,7 +59,7 @@ pub fn load_by(
     }
 }
 
-// A store, by its pairing where it has more than one piece.
+// The low bits of a number, placed in a field, for callers that know the span to be in bounds.
 pub fn store_by(
     words: &mut [Word],
     order: Order,

@@ -1,4 +1,4 @@
-// Single bits and fields of words of 8 bits. Every call takes any arguments; its promise is document 01's answer to them, and each lent word.
+// Single bits and fields of words of 8 bits. Every call takes any arguments: its promise is the rules' answer to them, and each lent word.
 mod bits;
 mod chunks;
 mod near;
@@ -28,7 +28,7 @@ ghost use Rattle.rules.specs.Fields.{whole};
 ghost use Rattle.rules.specs.Calls.{readBit, writeBit, load as loadCall, store as storeCall, storeStrict, answer, after, digit};
 ghost use Rattle.rules.specs.Answers.{bitSays, numberSays, writeSays, Gives};
 
-// Bit `index` of a span; refusals 1 to 3 and 10.
+// Bit `index` of a span. Refusals 1 to 3, 10.
 pub fn read_bit(words: &[Word], span: Span, index: usize) -> BitAnswer
     ensures { λ r. ⌜ bitSays r ≡ answer W (readBit span index) (now (words .entry)) ⌝ }
 {
@@ -47,14 +47,7 @@ pub fn read_bit(words: &[Word], span: Span, index: usize) -> BitAnswer
     }
 }
 
-// A bit as a number.
-fn digit_of(bit: bool) -> u64
-    ensures { λ r. ⌜ r ≡ digit bit ⌝ }
-{
-    if bit { 1 } else { 0 }
-}
-
-// Bit `index` of a span becomes `bit`, all others stay; refusals 1 to 3 and 10.
+// Bit `index` of a span becomes `bit`; all others stay. Refusals 1 to 3, 10.
 pub fn write_bit(words: &mut [Word], span: Span, index: usize, bit: bool) -> WriteAnswer
     ensures { λ r. ⌜ Gives W (writeBit span index bit) (now (words .entry)) (writeSays r) (now (words .exit)) ⌝ }
 {
@@ -72,7 +65,7 @@ pub fn write_bit(words: &mut [Word], span: Span, index: usize, bit: bool) -> Wri
     }
 }
 
-// The number that a field of 1 to K bits holds; refusals 1 to 5.
+// The number that a field holds: the span's 1 to k bits, read by the significance and the sign. Refusals 1 to 5.
 pub fn load(
     words: &[Word],
     span: Span,
@@ -94,7 +87,7 @@ pub fn load(
     }
 }
 
-// The low bits of a K-bit value, stored so that a load returns them; refusals 1 to 5 and 8.
+// The low bits of a value, placed in the field so that a load returns them. Refusals 1 to 5, 8.
 pub fn store(
     words: &mut [Word],
     span: Span,
@@ -125,7 +118,7 @@ pub fn store(
     }
 }
 
-// The same of a value that fits the field; refusals 1 to 5, 8 and 9.
+// A value placed in the field only if it fits, so that a load returns the value itself. Refusals 1 to 5, 8, 9.
 pub fn store_strict(
     words: &mut [Word],
     span: Span,
@@ -154,4 +147,11 @@ pub fn store_strict(
             WriteAnswer::Done
         }
     }
+}
+
+// A bit as a number: 1 for true.
+fn digit_of(bit: bool) -> u64
+    ensures { λ r. ⌜ r ≡ digit bit ⌝ }
+{
+    if bit { 1 } else { 0 }
 }

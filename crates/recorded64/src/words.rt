@@ -3,14 +3,6 @@ use records::numbers::word64_at;
 use records::seen::Spot;
 use word64::Word;
 
-// The word at an index of so many lent ones that begin at a place of the record. More than 64 words have no place there and are all 0.
-fn word_of(record: &[u8], at: usize, lent: usize, index: usize) -> Word {
-    if 64 < lent {
-        return 0;
-    }
-    word64_at(record, at, index)
-}
-
 // Sets the words to those at a place of the record.
 pub fn fill(words: &mut [Word], record: &[u8], at: usize) {
     let lent = words.len();
@@ -18,15 +10,6 @@ pub fn fill(words: &mut [Word], record: &[u8], at: usize) {
     while i < words.len() {
         words[i] = word_of(record, at, lent, i);
         i += 1;
-    }
-}
-
-// A word that is not the expected one.
-fn differs(at: usize, expected: Word, given: Word) -> Spot {
-    Spot::Differs {
-        at,
-        expected: expected as u64,
-        given: given as u64,
     }
 }
 
@@ -42,4 +25,21 @@ pub fn difference(words: &[Word], record: &[u8], at: usize) -> Spot {
         i += 1;
     }
     Spot::Same
+}
+
+// A word that is not the expected one.
+fn differs(at: usize, expected: Word, given: Word) -> Spot {
+    Spot::Differs {
+        at,
+        expected: expected as u64,
+        given: given as u64,
+    }
+}
+
+// The word at an index of so many lent ones that begin at a place of the record. More than 64 words have no place there and are all 0.
+fn word_of(record: &[u8], at: usize, lent: usize, index: usize) -> Word {
+    if 64 < lent {
+        return 0;
+    }
+    word64_at(record, at, index)
 }

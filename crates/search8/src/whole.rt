@@ -1,4 +1,5 @@
-// Whole words passed over: those from a up to e that are f.
+// Whole words that have no bit of the kind that is sought: f is such a word, all zeros or all ones. Large blocks are passed over first,
+// then small ones, then single words.
 use crate::leaves::pass_down;
 use crate::leaves::pass_up;
 use word8::Word;
@@ -12,7 +13,7 @@ const LARGE: usize = 256;
 
 const SMALL: usize = 64;
 
-// Up from a to the first word that is not f, or to e.
+// Up from word a to the first word that is not f, or to e.
 pub fn skip_up(words: &[Word], a: usize, e: usize, f: Word) -> usize
     requires { ⌜ (a ≤ e) × (e ≤ length (now words)) ⌝ }
     ensures { λ r. ⌜ (a ≤ r) × (r ≤ e) × Alike f (now (words .entry)) a r × (r < e → getD (now (words .entry)) r 0 ≢ f) ⌝ }
@@ -22,7 +23,7 @@ pub fn skip_up(words: &[Word], a: usize, e: usize, f: Word) -> usize
     pass_up(words, j, e, f, 1)
 }
 
-// Down from e to just past the last word that is not f, or to a.
+// Down from word e to just past the last word that is not f, or to a.
 pub fn skip_down(words: &[Word], a: usize, e: usize, f: Word) -> usize
     requires { ⌜ (a ≤ e) × (e ≤ length (now words)) ⌝ }
     ensures { λ r. ⌜ (a ≤ r) × (r ≤ e) × Alike f (now (words .entry)) r e × (a < r → getD (now (words .entry)) (r - 1) 0 ≢ f) ⌝ }

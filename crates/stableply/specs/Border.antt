@@ -3,7 +3,8 @@
 use Prim.Native.Nat.{ℕ, zero, suc}
 use mathlib.Core.Path.{_≡_}
 use mathlib.Core.Bool.{Bool, true, false, _||_, not}
-use mathlib.Core.List.{List}
+use mathlib.Core.List.{List, [], _∷_}
+use lib.ListN.{getD}
 use lib.Dec.{eqb, ltb}
 use Rattle.rules.specs.declared.Order.{Order}
 use Rattle.rules.specs.declared.Order.the-variants.{Lsb0, Msb0}
@@ -16,7 +17,7 @@ use Rattle.rules.specs.declared.Number.the-variants.{Up, Down}
 use Rattle.rules.specs.declared.Span.{Span}
 use Rattle.rules.specs.Positions.{span}
 use Rattle.rules.specs.Fields.{bitsOf}
-use Rattle.rules.specs.Calls.{Answer, refused, done, a-position, a-selector, a-mask, a-span, two-spans, a-bit, a-number, says-yes, says-no, found-at, absent}
+use Rattle.rules.specs.Calls.{Answer, refused, done, a-position, a-selector, a-mask, a-span, two-spans, a-bit, a-number, says-yes, says-no, found-at, absent, Call, answer, after, swapAnswer, swapLeft, swapRight}
 
 -- an order: 0 Lsb0, 1 Msb0
 abbrev pub orderOf : ℕ → Order
@@ -69,111 +70,70 @@ abbrev pub kept : Bool → List ℕ → List ℕ → List ℕ
 kept true new old = old
 kept false new old = new
 
--- what a call returns: 0, or the number of refusal
+-- how an answer crosses: a refusal as its number, what was accepted as the values behind the call's pointers
+pub data Crossing : Type 0 where
+  stopped : ℕ → Crossing
+  gave : List ℕ → Crossing
+
+-- an answer's values, in the order of the pointers: a signed number in two's complement, 1 for yes and 0 for no, 1 and an index for found and
+-- 0 alone for absent, the rest of a split as its word, head and length
+abbrev pub crossing : Answer → Crossing
+crossing (refused n) = stopped n
+crossing done = gave []
+crossing (a-position p) = gave (p ∷ [])
+crossing (a-selector s) = gave (s ∷ [])
+crossing (a-mask m) = gave (m ∷ [])
+crossing (a-span s) = gave (s .word ∷ s .head .0 ∷ s .len ∷ [])
+crossing (two-spans s t) = gave (t .word ∷ t .head .0 ∷ t .len ∷ [])
+crossing (a-bit b) = gave (b ∷ [])
+crossing (a-number z) = gave (bitsOf 64 z ∷ [])
+crossing says-yes = gave (1 ∷ [])
+crossing says-no = gave (0 ∷ [])
+crossing (found-at i) = gave (1 ∷ i ∷ [])
+crossing absent = gave (0 ∷ [])
+
+-- what a call returns: the number of refusal, or 0
+abbrev pub code : Crossing → ℕ
+code (stopped n) = n
+code (gave values) = 0
+
+-- what its k-th pointer then points to: the k-th value, or what it pointed to before where there is none
+abbrev pub pointed : ℕ → Crossing → ℕ → ℕ
+pointed k (stopped n) old = old
+pointed k (gave values) old = getD values k old
+
+-- the same of an answer
 abbrev pub returned : Answer → ℕ
-returned (refused n) = n
-returned done = 0
-returned (a-position p) = 0
-returned (a-selector s) = 0
-returned (a-mask m) = 0
-returned (a-span s) = 0
-returned (two-spans s t) = 0
-returned (a-bit b) = 0
-returned (a-number z) = 0
-returned says-yes = 0
-returned says-no = 0
-returned (found-at i) = 0
-returned absent = 0
+returned a = code (crossing a)
 
--- what `out` holds then, where it held `old`: the answer's number, a signed one in two's complement; 1 for yes and 0 for no
-abbrev pub written : Answer → ℕ → ℕ
-written (refused n) old = old
-written done old = old
-written (a-position p) old = p
-written (a-selector s) old = s
-written (a-mask m) old = m
-written (a-span s) old = old
-written (two-spans s t) old = old
-written (a-bit b) old = b
-written (a-number z) old = bitsOf 64 z
-written says-yes old = 1
-written says-no old = 0
-written (found-at i) old = old
-written absent old = old
-
--- what `found` holds then: 1, or 0 for absent
-abbrev pub foundFlag : Answer → ℕ → ℕ
-foundFlag (refused n) old = old
-foundFlag done old = old
-foundFlag (a-position p) old = old
-foundFlag (a-selector s) old = old
-foundFlag (a-mask m) old = old
-foundFlag (a-span s) old = old
-foundFlag (two-spans s t) old = old
-foundFlag (a-bit b) old = old
-foundFlag (a-number z) old = old
-foundFlag says-yes old = old
-foundFlag says-no old = old
-foundFlag (found-at i) old = 1
-foundFlag absent old = 0
-
--- what `at` holds then: the index, or what it held
-abbrev pub foundIndex : Answer → ℕ → ℕ
-foundIndex (refused n) old = old
-foundIndex done old = old
-foundIndex (a-position p) old = old
-foundIndex (a-selector s) old = old
-foundIndex (a-mask m) old = old
-foundIndex (a-span s) old = old
-foundIndex (two-spans s t) old = old
-foundIndex (a-bit b) old = old
-foundIndex (a-number z) old = old
-foundIndex says-yes old = old
-foundIndex says-no old = old
-foundIndex (found-at i) old = i
-foundIndex absent old = old
-
--- one number of the rest of a split, or what the pointer held
-abbrev pub ofRest : (Span → ℕ) → Answer → ℕ → ℕ
-ofRest part (refused n) old = old
-ofRest part done old = old
-ofRest part (a-position p) old = old
-ofRest part (a-selector s) old = old
-ofRest part (a-mask m) old = old
-ofRest part (a-span s) old = old
-ofRest part (two-spans s t) old = part t
-ofRest part (a-bit b) old = old
-ofRest part (a-number z) old = old
-ofRest part says-yes old = old
-ofRest part says-no old = old
-ofRest part (found-at i) old = old
-ofRest part absent old = old
+abbrev pub behindPointer : ℕ → Answer → ℕ → ℕ
+behindPointer k a old = pointed k (crossing a) old
 
 -- what a call with one out-value promises: the number that it returns, and what stands behind the pointer
 pub record Told (answer : Answer) (old r new : ℕ) : Type 0 where
   pub number : r ≡ returned answer
-  pub value : new ≡ written answer old
+  pub value : new ≡ behindPointer 0 answer old
 
 -- the same of a search, with its flag and its index
 pub record Found (answer : Answer) (oldFlag oldIndex r flag index : ℕ) : Type 0 where
   pub number : r ≡ returned answer
-  pub whether : flag ≡ foundFlag answer oldFlag
-  pub where-to : index ≡ foundIndex answer oldIndex
+  pub whether : flag ≡ behindPointer 0 answer oldFlag
+  pub where-to : index ≡ behindPointer 1 answer oldIndex
 
 -- the same of a split, with the three numbers of its rest
 pub record Rest (answer : Answer) (oldWord oldHead oldLength r word head length : ℕ) : Type 0 where
   pub number : r ≡ returned answer
-  pub first-word : word ≡ ofRest (λ s. s .word) answer oldWord
-  pub first-head : head ≡ ofRest (λ s. s .head .0) answer oldHead
-  pub rest-length : length ≡ ofRest (λ s. s .len) answer oldLength
+  pub first-word : word ≡ behindPointer 0 answer oldWord
+  pub first-head : head ≡ behindPointer 1 answer oldHead
+  pub rest-length : length ≡ behindPointer 2 answer oldLength
 
 -- what a writing call promises: the number that it returns, and every lent word; `bad` says that an argument is no code
-pub record Wrote (bad : Bool) (answer : Answer) (memory old : List ℕ) (r : ℕ) (new : List ℕ) : Type 0 where
-  pub number : r ≡ returned (behind bad answer)
-  pub holds : new ≡ kept bad memory old
+pub record Wrote (W : ℕ) (bad : Bool) (call : Call) (old : List ℕ) (r : ℕ) (new : List ℕ) : Type 0 where
+  pub number : r ≡ returned (behind bad (answer W call old))
+  pub holds : new ≡ kept bad (after W call old) old
 
 -- the same of a swap, with both buffers
-pub record Swapped (bad : Bool) (answer : Answer) (left oldLeft right oldRight : List ℕ) (r : ℕ) (newLeft newRight : List ℕ) : Type 0 where
-  pub number : r ≡ returned (behind bad answer)
-  pub holds-left : newLeft ≡ kept bad left oldLeft
-  pub holds-right : newRight ≡ kept bad right oldRight
+pub record Swapped (W : ℕ) (bad : Bool) (left : List ℕ) (s : Span) (right : List ℕ) (t : Span) (r : ℕ) (newLeft newRight : List ℕ) : Type 0 where
+  pub number : r ≡ returned (behind bad (swapAnswer W left s right t))
+  pub holds-left : newLeft ≡ kept bad (swapLeft W left s right t) left
+  pub holds-right : newRight ≡ kept bad (swapRight W left s right t) right

@@ -114,7 +114,8 @@ pub fn leave_found(answer: SearchAnswer, found: &mut u8, at: &mut usize) -> u8
 }
 
 pub fn leave_rest(answer: SplitAnswer, word: &mut usize, head: &mut usize, length: &mut usize) -> u8
-    ensures { λ r. ⌜ Rest (splitSays answer) (now (word .entry)) (now (head .entry)) (now (length .entry)) r (now (word .exit)) (now (head .exit)) (now (length .exit)) ⌝ }
+    ensures { λ r. ⌜ Rest (splitSays answer) (now (word .entry)) (now (head .entry)) (now (length .entry)) r (now (word .exit)) (now (head .exit))
+        (now (length .exit)) ⌝ }
 {
     match answer {
         SplitAnswer::Refused(no) => no.number(),

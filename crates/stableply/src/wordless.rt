@@ -103,7 +103,8 @@ fn split(
     rest_head: &mut usize,
     rest_length: &mut usize,
 ) -> u8
-    ensures { λ r. ⌜ Rest (behind (none order) (splitAnswer (bits width) lent (spanOf order word head length) place)) (now («rest_word» .entry)) (now («rest_head» .entry)) (now («rest_length» .entry)) r (now («rest_word» .exit)) (now («rest_head» .exit)) (now («rest_length» .exit)) ⌝ }
+    ensures { λ r. ⌜ Rest (behind (none order) (splitAnswer (bits width) lent (spanOf order word head length) place)) (now («rest_word» .entry))
+        (now («rest_head» .entry)) (now («rest_length» .entry)) r (now («rest_word» .exit)) (now («rest_head» .exit)) (now («rest_length» .exit)) ⌝ }
 {
     if 1 < order {
         return 255;
@@ -131,7 +132,9 @@ pub extern "C" fn stableply_split(
     rest_head: &mut usize,
     rest_length: &mut usize,
 ) -> u8
-    ensures { λ r. ⌜ Rest (behind (noWidth width || none order) (splitAnswer width lent (spanOf order word head length) place)) (now («rest_word» .entry)) (now («rest_head» .entry)) (now («rest_length» .entry)) r (now («rest_word» .exit)) (now («rest_head» .exit)) (now («rest_length» .exit)) ⌝ }
+    ensures { λ r. ⌜ Rest (behind (noWidth width || none order) (splitAnswer width lent (spanOf order word head length) place))
+        (now («rest_word» .entry)) (now («rest_head» .entry)) (now («rest_length» .entry)) r (now («rest_word» .exit)) (now («rest_head» .exit))
+        (now («rest_length» .exit)) ⌝ }
 {
     if width == 8 {
         return split(

@@ -1,4 +1,4 @@
-// The leaves that know a word of 8 bits. All that is done to a word by its order is done here.
+// The leaves that know a word of 8 bits. All that is done to a word by its order is done here; what is above speaks of indexes alone.
 mod zeros;
 
 use rules::Index;
@@ -31,18 +31,7 @@ pub const TOP: usize = W - 1;
 // The word that is all ones.
 pub const ONES: Word = !0;
 
-// The mask of the n positions from `lowest` up, of which there is one at least.
-fn ones(lowest: Position, n: usize) -> Mask
-    requires { ⌜ (1 ≤ n) × (lowest .0 + n ≤ W) ⌝ }
-    ensures { λ r. ⌜ r .0 ≡ (2 ^ n - 1) * 2 ^ lowest .0 ⌝ }
-{
-    let p = lowest.0;
-    let low = ONES >> (W - n);
-    let moved = low << p;
-    Mask(moved as u64)
-}
-
-// The mask of the n indexes from `head` on, of which there is one at least.
+// The mask of the n indexes from `head` on. There is at least one.
 pub fn mask(order: Order, head: Index, n: usize) -> Mask
     requires { ⌜ (1 ≤ n) × (head .0 + n ≤ W) ⌝ }
     ensures { λ r. ⌜ r .0 ≡ mask W order (head .0) (head .0 + n) ⌝ }
@@ -54,14 +43,14 @@ pub fn mask(order: Order, head: Index, n: usize) -> Mask
     }
 }
 
-// The bits of x where m has ones.
+// The bits of x where the mask has ones, and 0 elsewhere.
 pub fn under(m: Mask, x: Word) -> Word
     ensures { λ r. ⌜ r ≡ bitAnd x (m .0) ⌝ }
 {
     (x as u64 & m.0) as Word
 }
 
-// A word moved k indexes down.
+// A word moved k indexes down: its bit at index k + i is then at index i.
 pub fn down(order: Order, x: Word, k: usize) -> Word
     requires { ⌜ k < W ⌝ }
     ensures { λ r. ⌜ r ≡ downOf W order x k ⌝ }
@@ -72,7 +61,7 @@ pub fn down(order: Order, x: Word, k: usize) -> Word
     }
 }
 
-// A word moved k indexes up.
+// A word moved k indexes up: its bit at index i is then at index k + i.
 pub fn up(order: Order, x: Word, k: usize) -> Word
     requires { ⌜ k < W ⌝ }
     ensures { λ r. ⌜ r ≡ upOf W order x k ⌝ }
@@ -83,7 +72,7 @@ pub fn up(order: Order, x: Word, k: usize) -> Word
     }
 }
 
-// The word that begins at index `head` of x and goes on in y, the next one.
+// The word that begins at index `head` of x and goes on in y, the next one. Two shifts of y make one by W - head, of which neither is by W.
 pub fn joined(order: Order, head: Index, x: Word, y: Word) -> Word
     requires { ⌜ (1 ≤ head .0) × (head .0 < W) ⌝ }
     ensures { λ r. ⌜ r ≡ funneled W order (head .0) x y ⌝ }
@@ -95,7 +84,7 @@ pub fn joined(order: Order, head: Index, x: Word, y: Word) -> Word
     }
 }
 
-// The bits of v where m has ones, else those of u.
+// The bits of v where the mask has ones, and those of u elsewhere.
 pub fn select(m: Mask, u: Word, v: Word) -> Word
     ensures { λ r. ⌜ r ≡ selected (m .0) u v ⌝ }
 {
@@ -109,7 +98,7 @@ pub fn least(a: usize, b: usize) -> usize
     if a < b { a } else { b }
 }
 
-// Of len bits from place `at` on, those up to the next word's start, or all.
+// How many of `len` bits from place `at` on lie before the next word's start: none where a word starts there.
 pub fn lead(at: usize, len: usize) -> usize
     ensures { λ r. ⌜ (r ≤ len) × (at % W + r ≤ W) × (r < len → (at + r) % W ≡ 0) ⌝ }
 {
@@ -121,7 +110,7 @@ pub fn lead(at: usize, len: usize) -> usize
     if len < r { len } else { r }
 }
 
-// n bits of a row from place s on, brought to the indexes from `head` on. Its other bits are any.
+// n bits of a row from place s on, brought to the indexes from `head` on. What its other bits are is not said.
 pub fn fetch(source: &[Word], order: Order, s: usize, head: Index, n: usize) -> Word
     requires { ⌜ (1 ≤ n) × (head .0 + n ≤ W) × (s + n ≤ length (now source) * W) ⌝ }
     ensures { λ r. ⌜ Carries W order r (head .0) n (λ i. row W order (now (source .entry)) (s + i)) ⌝ }
@@ -141,7 +130,7 @@ pub fn fetch(source: &[Word], order: Order, s: usize, head: Index, n: usize) -> 
     joined(order, Index(g), source[b], source[b + 1])
 }
 
-// n bits within one word of a row from place d on become those that v has at the same indexes.
+// n bits within one word of a row, from place d on, become those that v has at the same indexes.
 pub fn put(words: &mut [Word], order: Order, d: usize, n: usize, v: Word)
     requires { ⌜ (1 ≤ n) × (d % W + n ≤ W) × (d + n ≤ length (now words) * W) ⌝ }
     ensures { λ _. ⌜ now (words .exit) ≡ spliced W order (now (words .entry)) d n (λ i. bitN v (position W order (d % W + i))) ⌝ }
@@ -150,4 +139,15 @@ pub fn put(words: &mut [Word], order: Order, d: usize, n: usize, v: Word)
     let m = mask(order, Index(d % W), n);
     let x = select(m, words[word], v);
     words[word] = x;
+}
+
+// The mask of the n positions from `lowest` up. There is at least one.
+fn ones(lowest: Position, n: usize) -> Mask
+    requires { ⌜ (1 ≤ n) × (lowest .0 + n ≤ W) ⌝ }
+    ensures { λ r. ⌜ r .0 ≡ (2 ^ n - 1) * 2 ^ lowest .0 ⌝ }
+{
+    let p = lowest.0;
+    let low = ONES >> (W - n);
+    let moved = low << p;
+    Mask(moved as u64)
 }

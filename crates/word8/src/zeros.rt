@@ -1,4 +1,4 @@
-// Searches within a word: the bits sought made ones, and the zero counts by the order.
+// Searches within a word, by the machine's counts of zeros. To search for zeros, a word is turned over first.
 use crate::ONES;
 use crate::W;
 use crate::Word;
@@ -11,14 +11,14 @@ ghost use Rattle.rules.specs.Positions.{position};
 ghost use Rattle.rules.specs.Rows.{firstWith, lastWith};
 ghost use Rattle.rules.proofs.WordSearch.{flipped};
 
-// What makes the bits sought ones, by exclusive or: nothing, or the complement.
+// What turns the sought bits of a word into ones, by exclusive or: no bit, or all.
 pub fn flip(sought: bool) -> Word
     ensures { λ r. ⌜ r ≡ flipped W sought ⌝ }
 {
     if sought { 0 } else { ONES }
 }
 
-// Where the zeros before the first one end: the least index with a one; 8, which is no index, where there is none.
+// The smallest index with a one; W, which is no index, where there is none.
 pub fn zeros_end(order: Order, word: Word) -> End
     ensures { λ r. ⌜ r .0 ≡ firstWith W (λ i. bitN word (position W order i)) 1 ⌝ }
 {
@@ -28,7 +28,7 @@ pub fn zeros_end(order: Order, word: Word) -> End
     }
 }
 
-// One more than the greatest index with a one; 0 where there is none.
+// One more than the largest index with a one; 0 where there is none.
 pub fn last_end(order: Order, word: Word) -> End
     ensures { λ r. ⌜ r .0 ≡ lastWith W (λ i. bitN word (position W order i)) 1 ⌝ }
 {

@@ -1,4 +1,4 @@
-// Fields as numbers, for callers that have seen that the span is in bounds: a first piece, whole words, a last piece.
+// Fields of more than one piece, as numbers, for callers that know the span to be in bounds: a first piece, whole words, a last piece.
 use crate::parts::load_middle;
 use crate::parts::piece_at;
 use crate::parts::put_piece;
@@ -16,27 +16,7 @@ ghost use Rattle.word32.specs.Width.{W};
 ghost use Rattle.rules.specs.Fields.{loadOf, storeOf};
 ghost use Rattle.rules.proofs.Chunks.{chunk};
 
-// The number that `whole` words from word `start` on are with `last` bits of the word after them.
-fn load_rest(
-    words: &[Word],
-    order: Order,
-    significance: Significance,
-    start: usize,
-    whole: usize,
-    last: usize,
-) -> u64
-    requires { ⌜ (last < W) × (whole * W + last ≤ 63) × (start * W + (whole * W + last) ≤ length (now words) * W) ⌝ }
-    ensures { λ r. ⌜ (r ≡ loadOf W order significance (now (words .entry)) (start * W) (whole * W + last)) × (r < 2 ^ (whole * W + last)) ⌝ }
-{
-    let a = load_middle(words, significance, start, whole);
-    if last == 0 {
-        return a;
-    }
-    let b = piece_at(words, order, start + whole, Index(0), last);
-    pieces::join(significance, a, whole * W, b, last)
-}
-
-// The number that the bits of a field of more than one piece are, from index `head` of a word on.
+// The number that a field's bits are, from index `head` of a word on.
 pub fn load_bits(
     words: &[Word],
     order: Order,
@@ -57,7 +37,31 @@ pub fn load_bits(
     pieces::join(significance, a, first, b, len - first)
 }
 
-// The low bits of a number, placed in `whole` words from word `start` on and `last` bits of the word after them.
+// The low bits of a number, placed in a field so that a load returns them. All other bits stay.
+pub fn store_bits(
+    words: &mut [Word],
+    order: Order,
+    significance: Significance,
+    word: usize,
+    head: Index,
+    len: usize,
+    v: u64,
+)
+    requires { ⌜ (head .0 < W) × (W < head .0 + len) × (len ≤ chunk) × (word * W + head .0 + len ≤ length (now words) * W) ⌝ }
+    ensures { λ _. ⌜ now (words .exit) ≡ storeOf W order significance (now (words .entry)) (word * W + head .0) len v ⌝ }
+{
+    let cut = Cut::across(W, head, len);
+    let first = cut.first;
+    let whole = cut.whole;
+    let last = cut.last;
+    let a = pieces::first_of(significance, v, len - first);
+    put_piece(words, order, word, head, first, a);
+    let b = pieces::rest_of(significance, v, first);
+    store_rest(words, order, significance, word + 1, whole, last, b);
+}
+
+// What follows the first piece: the low bits of a number, placed in `whole` words from word `start` on and in `last` bits of the word after
+// them.
 fn store_rest(
     words: &mut [Word],
     order: Order,
@@ -79,25 +83,22 @@ fn store_rest(
     put_piece(words, order, start + whole, Index(0), last, b);
 }
 
-// The low bits of a number, placed in a field of more than one piece so that a load returns them. All other bits stay.
-pub fn store_bits(
-    words: &mut [Word],
+// What follows the first piece: the number that `whole` words from word `start` on are together with `last` bits of the word after them.
+fn load_rest(
+    words: &[Word],
     order: Order,
     significance: Significance,
-    word: usize,
-    head: Index,
-    len: usize,
-    v: u64,
-)
-    requires { ⌜ (head .0 < W) × (W < head .0 + len) × (len ≤ chunk) × (word * W + head .0 + len ≤ length (now words) * W) ⌝ }
-    ensures { λ _. ⌜ now (words .exit) ≡ storeOf W order significance (now (words .entry)) (word * W + head .0) len v ⌝ }
+    start: usize,
+    whole: usize,
+    last: usize,
+) -> u64
+    requires { ⌜ (last < W) × (whole * W + last ≤ 63) × (start * W + (whole * W + last) ≤ length (now words) * W) ⌝ }
+    ensures { λ r. ⌜ (r ≡ loadOf W order significance (now (words .entry)) (start * W) (whole * W + last)) × (r < 2 ^ (whole * W + last)) ⌝ }
 {
-    let cut = Cut::across(W, head, len);
-    let first = cut.first;
-    let whole = cut.whole;
-    let last = cut.last;
-    let a = pieces::first_of(significance, v, len - first);
-    put_piece(words, order, word, head, first, a);
-    let b = pieces::rest_of(significance, v, first);
-    store_rest(words, order, significance, word + 1, whole, last, b);
+    let a = load_middle(words, significance, start, whole);
+    if last == 0 {
+        return a;
+    }
+    let b = piece_at(words, order, start + whole, Index(0), last);
+    pieces::join(significance, a, whole * W, b, last)
 }

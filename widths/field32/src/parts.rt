@@ -1,4 +1,5 @@
-// The parts of a field in memory: a piece of one word, and whole words. A piece does not depend on the significance, nor whole words on the order.
+// The parts of a field in memory: a piece of one word, which does not depend on the significance, and whole words, which do not depend on
+// the order.
 use crate::words::put_word;
 use crate::words::word_at;
 use rules::Index;
@@ -14,7 +15,7 @@ ghost use Rattle.rules.specs.declared.Order.{Order};
 ghost use Rattle.rules.specs.declared.Significance.{Significance};
 ghost use Rattle.rules.specs.Fields.{loadOf, storeOf};
 
-// The n bits of a word from index `head` on.
+// The n bits of a word from index `head` on, as a number.
 pub fn piece_at(words: &[Word], order: Order, word: usize, head: Index, n: usize) -> u64
     requires { ⌜ (1 ≤ n) × (head .0 + n ≤ W) × (word < length (now words)) ⌝ }
     ensures { λ r. ⌜ ((e : Significance) → r ≡ loadOf W order e (now (words .entry)) (word * W + head .0) n) × (r < 2 ^ n) ⌝ }
@@ -33,23 +34,31 @@ pub fn put_piece(words: &mut [Word], order: Order, word: usize, head: Index, n: 
     put_word(words, word, y);
 }
 
-// The number that whole words are.
-fn load_whole(part: &[Word], significance: Significance) -> u64
-    requires { ⌜ length (now part) * W ≤ 63 ⌝ }
-    ensures { λ r. ⌜ ((o : Order) → r ≡ loadOf W o significance (now (part .entry)) 0 (length (now (part .entry)) * W)) ⌝ }
+// The number that `whole` words from word `start` on are.
+pub fn load_middle(words: &[Word], significance: Significance, start: usize, whole: usize) -> u64
+    requires { ⌜ (whole * W ≤ 63) × (start + whole ≤ length (now words)) ⌝ }
+    ensures { λ r. ⌜ ((o : Order) → r ≡ loadOf W o significance (now (words .entry)) (start * W) (whole * W)) ⌝ }
 {
-    let n = part.len();
-    let mut x: u64 = 0;
-    let mut i: usize = 0;
-    while i < n {
-        let word = word_at(part, i);
-        x = pieces::join(significance, x, i * W, word, W);
-        i = i + 1;
-    }
-    x
+    let end = start + whole;
+    load_whole(&words[start..end], significance)
 }
 
-// Whole words made anew, of the bits of a number.
+// The bits of a number, put in place of `whole` words from word `start` on. They are lent on as a part of their own.
+pub fn store_middle(
+    words: &mut [Word],
+    significance: Significance,
+    start: usize,
+    whole: usize,
+    v: u64,
+)
+    requires { ⌜ (whole * W ≤ 63) × (start + whole ≤ length (now words)) ⌝ }
+    ensures { λ _. ⌜ ((o : Order) → now (words .exit) ≡ storeOf W o significance (now (words .entry)) (start * W) (whole * W) v) ⌝ }
+{
+    let end = start + whole;
+    store_whole(&mut words[start..end], significance, v);
+}
+
+// All words of a part made anew, of the bits of a number.
 fn store_whole(part: &mut [Word], significance: Significance, v: u64)
     requires { ⌜ length (now part) * W ≤ 63 ⌝ }
     ensures { λ _. ⌜ ((o : Order) → now (part .exit) ≡ storeOf W o significance (now (part .entry)) 0 (length (now (part .entry)) * W) v) ⌝ }
@@ -64,26 +73,18 @@ fn store_whole(part: &mut [Word], significance: Significance, v: u64)
     }
 }
 
-// The number that `whole` words from word `start` on are.
-pub fn load_middle(words: &[Word], significance: Significance, start: usize, whole: usize) -> u64
-    requires { ⌜ (whole * W ≤ 63) × (start + whole ≤ length (now words)) ⌝ }
-    ensures { λ r. ⌜ ((o : Order) → r ≡ loadOf W o significance (now (words .entry)) (start * W) (whole * W)) ⌝ }
+// The number that all words of a part are.
+fn load_whole(part: &[Word], significance: Significance) -> u64
+    requires { ⌜ length (now part) * W ≤ 63 ⌝ }
+    ensures { λ r. ⌜ ((o : Order) → r ≡ loadOf W o significance (now (part .entry)) 0 (length (now (part .entry)) * W)) ⌝ }
 {
-    let end = start + whole;
-    load_whole(&words[start..end], significance)
-}
-
-// The bits of a number, put in place of `whole` words from word `start` on, which are lent on as a part.
-pub fn store_middle(
-    words: &mut [Word],
-    significance: Significance,
-    start: usize,
-    whole: usize,
-    v: u64,
-)
-    requires { ⌜ (whole * W ≤ 63) × (start + whole ≤ length (now words)) ⌝ }
-    ensures { λ _. ⌜ ((o : Order) → now (words .exit) ≡ storeOf W o significance (now (words .entry)) (start * W) (whole * W) v) ⌝ }
-{
-    let end = start + whole;
-    store_whole(&mut words[start..end], significance, v);
+    let n = part.len();
+    let mut x: u64 = 0;
+    let mut i: usize = 0;
+    while i < n {
+        let word = word_at(part, i);
+        x = pieces::join(significance, x, i * W, word, W);
+        i = i + 1;
+    }
+    x
 }

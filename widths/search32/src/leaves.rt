@@ -1,4 +1,4 @@
-// The leaves, which know the word's type: the bits sought in a word, and blocks of words that have none.
+// What the searches do to words: the bits that are sought in one, and blocks that have none.
 use rules::Index;
 use rules::Order;
 use word32::Word;
@@ -12,7 +12,7 @@ ghost use Rattle.word32.specs.Width.{W};
 ghost use Rattle.rules.proofs.WordSearch.{masked};
 ghost use Rattle.rules.proofs.Alike.{Alike, Gathered};
 
-// The bits sought among the n from index `head` of word k on, as the ones of a word.
+// The bits that are sought among the n from index `head` of word k on, as the ones of a word.
 pub fn sought_in(words: &[Word], order: Order, sought: bool, k: usize, head: Index, n: usize) -> Word
     requires { ⌜ (1 ≤ n) × (head .0 + n ≤ W) × (k * W + head .0 + n ≤ length (now words) * W) ⌝ }
     ensures { λ r. ⌜ r ≡ masked W order sought (getD (now (words .entry)) k 0) (head .0) n ⌝ }
@@ -23,20 +23,7 @@ pub fn sought_in(words: &[Word], order: Order, sought: bool, k: usize, head: Ind
     under(m, x)
 }
 
-// Zero exactly if each word is f.
-fn gather(words: &[Word], f: Word) -> Word
-    ensures { λ r. ⌜ Gathered f (now (words .entry)) (length (now (words .entry))) r ⌝ }
-{
-    let mut v: Word = 0;
-    let mut i: usize = 0;
-    while i < words.len() {
-        v = v | (words[i] ^ f);
-        i = i + 1;
-    }
-    v
-}
-
-// Up from a past blocks of f, to a block that is not or to less than a block.
+// Up from word a past blocks of `size` words that are all f: to a block that is not, or to where less than a block is left below e.
 pub fn pass_up(words: &[Word], a: usize, e: usize, f: Word, size: usize) -> usize
     requires { ⌜ (a ≤ e) × (e ≤ length (now words)) × (1 ≤ size) ⌝ }
     ensures { λ r. ⌜ (a ≤ r) × (r ≤ e) × Alike f (now (words .entry)) a r × (r + size ≤ e → Alike f (now (words .entry)) r (r + size) → ⊥) ⌝ }
@@ -52,7 +39,7 @@ pub fn pass_up(words: &[Word], a: usize, e: usize, f: Word, size: usize) -> usiz
     i
 }
 
-// Down from e past blocks of f, to a block that is not or to less than a block.
+// Down from word e past blocks of `size` words that are all f: to a block that is not, or to where less than a block is left above a.
 pub fn pass_down(words: &[Word], a: usize, e: usize, f: Word, size: usize) -> usize
     requires { ⌜ (a ≤ e) × (e ≤ length (now words)) × (1 ≤ size) ⌝ }
     ensures { λ r. ⌜ (a ≤ r) × (r ≤ e) × Alike f (now (words .entry)) r e × (a + size ≤ r → Alike f (now (words .entry)) (r - size) r → ⊥) ⌝ }
@@ -66,4 +53,17 @@ pub fn pass_down(words: &[Word], a: usize, e: usize, f: Word, size: usize) -> us
         i = j;
     }
     i
+}
+
+// 0 exactly if each word is f. There is no exit inside, so that the compiler makes vector code of it.
+fn gather(words: &[Word], f: Word) -> Word
+    ensures { λ r. ⌜ Gathered f (now (words .entry)) (length (now (words .entry))) r ⌝ }
+{
+    let mut v: Word = 0;
+    let mut i: usize = 0;
+    while i < words.len() {
+        v = v | (words[i] ^ f);
+        i = i + 1;
+    }
+    v
 }

@@ -30,7 +30,7 @@ same-length c = search needs
 returns-3 : tie.Need-returns-3
 returns-3 c =
     let h = rw (c .before .before .before .before .before .before .span-of .ensures, c .before .before .before .before .before .bit-of .ensures) at (c .before .before .before .write-bit .ensures) in
-    wrote _ _ _ (all-named _ _ (c .before .before .before .before .before .before .before .before .if1 .left) (le-ltb _ _ (c .before .before .before .before .before .before .before .if2 .left))) (c .leave-write .ensures) (h .answers) (h .holds)
+    wrote _ _ _ (all-named _ _ (c .before .before .before .before .before .before .before .before .if1 .left) (le-ltb _ _ (c .before .before .before .before .before .before .before .if2 .left))) (c .leave-write .ensures) h
 
 pub stableply64-write-bit-spec : {M : Type 1} → statement M
 stableply64-write-bit-spec =

@@ -23,7 +23,7 @@ same-length c = search needs
 returns-2 : tie.Need-returns-2
 returns-2 c =
     let h = rw (c .before .before .before .before .before .span-of .ensures) at (c .before .before .before .copy-within .ensures) in
-    wrote _ _ _ (le-ltb _ _ (c .before .before .before .before .before .before .if1 .left)) (c .leave-write .ensures) (h .answers) (h .holds)
+    wrote _ _ _ (le-ltb _ _ (c .before .before .before .before .before .before .if1 .left)) (c .leave-write .ensures) h
 
 pub stableply8-copy-within-spec : {M : Type 1} → statement M
 stableply8-copy-within-spec =
