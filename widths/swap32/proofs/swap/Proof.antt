@@ -37,7 +37,7 @@ start-requires-2 c κs = let h = held (c .before) in let p = h .pair in let r = 
 
 swap-row-requires : tie.Need-swap-row-requires
 swap-row-requires c κs =
-    let s = c .before in
+    let s = c .before .before in
     let d = s .before in
     let h = held (d .before) in
     let p = h .pair in
@@ -58,7 +58,7 @@ same-length-2 c = search needs
 returns-2 : tie.Need-returns-2
 returns-2 c =
     let row = c .before .before .before .before in
-    let s = row .before .before in
+    let s = row .before .before .before in
     let d = s .before in
     let told = d .before in
     let a = told .before .before .before .before .before .args in
