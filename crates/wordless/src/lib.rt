@@ -11,4 +11,6 @@ pub use numbers::read;
 pub use numbers::to_i64;
 pub use orders::mask;
 pub use orders::position;
+pub use orders::position_of;
 pub use orders::selector;
+pub use orders::selector_at;

@@ -61,7 +61,7 @@ pub fn mask(width: Width, order: Order, from: Index, upto: End) -> MaskAnswer
 }
 
 // The real position of an index that the caller has seen to be below the width.
-fn position_of(width: Width, order: Order, index: Index) -> Position
+pub fn position_of(width: Width, order: Order, index: Index) -> Position
     requires { ⌜ index .0 < bits width ⌝ }
     ensures { λ r. ⌜ (r .0 ≡ positions.position (bits width) order (index .0)) × (r .0 < bits width) ⌝ }
 {
@@ -73,7 +73,7 @@ fn position_of(width: Width, order: Order, index: Index) -> Position
 }
 
 // The selector of a position that the caller has seen to be below 64.
-fn selector_at(at: Position) -> Selector
+pub fn selector_at(at: Position) -> Selector
     requires { ⌜ at .0 < 64 ⌝ }
     ensures { λ r. ⌜ r .0 ≡ 2 ^ at .0 ⌝ }
 {
