@@ -87,9 +87,9 @@ pub fn mask_at(lowest: Position, n: usize) -> Mask
     requires { ⌜ (0 < n) × (lowest .0 + n ≤ 64) ⌝ }
     ensures { λ r. ⌜ r .0 ≡ (2 ^ n - 1) * 2 ^ lowest .0 ⌝ }
 {
-    let p = lowest.0;
+    let at = lowest.0;
     let ones = low_ones(n);
-    Mask(ones << p)
+    Mask(ones << at)
 }
 
 // The lowest position of the n bits of a word from index `head` on.
@@ -101,18 +101,6 @@ pub fn lowest_of(width: usize, order: Order, head: Index, n: usize) -> Position
     match order {
         Order::Lsb0 => Position(h),
         Order::Msb0 => Position(width - h - n),
-    }
-}
-
-// How many of 64 bits lie above the bits of a word from index `head` on that are all but `rest` of 64.
-fn room_above(width: usize, order: Order, head: Index, rest: usize) -> usize
-    requires { ⌜ (rest < 64) × (head .0 + (64 - rest) ≤ width) × (width ≤ 64) ⌝ }
-    ensures { λ r. ⌜ r ≡ rest - lowest width order (head .0) (64 - rest) ⌝ }
-{
-    let h = head.0;
-    match order {
-        Order::Lsb0 => rest - h,
-        Order::Msb0 => 64 - width + h,
     }
 }
 
@@ -169,5 +157,17 @@ pub fn rest_of(significance: Significance, v: u64, k: usize) -> u64
     match significance {
         Significance::Le => v >> k,
         Significance::Be => v,
+    }
+}
+
+// How many of 64 bits lie above the bits of a word from index `head` on that are all but `rest` of 64.
+fn room_above(width: usize, order: Order, head: Index, rest: usize) -> usize
+    requires { ⌜ (rest < 64) × (head .0 + (64 - rest) ≤ width) × (width ≤ 64) ⌝ }
+    ensures { λ r. ⌜ r ≡ rest - lowest width order (head .0) (64 - rest) ⌝ }
+{
+    let h = head.0;
+    match order {
+        Order::Lsb0 => rest - h,
+        Order::Msb0 => 64 - width + h,
     }
 }

@@ -20,7 +20,7 @@ ghost use Rattle.rules.specs.Answers.{Judges};
 ghost use Rattle.laws.proofs.fields.Begun.{Begun};
 ghost use Rattle.laws.proofs.fields.Chunk.{chunk};
 
-// Single bit: 1 to 3, and 10 where the index is not below the span's length.
+// What a read or a write of one bit is refused for: 1 to 3 of its span, then 10 where the index is not below the span's length.
 pub fn check_bit(width: Width, lent: usize, span: Span, index: usize) -> Verdict
     ensures { λ r. ⌜ Judges (bitCases (bits width) lent span index) r ⌝ }
 {
@@ -37,7 +37,7 @@ pub fn check_bit(width: Width, lent: usize, span: Span, index: usize) -> Verdict
     }
 }
 
-// Load: 1 to 3, then 4 and 5.
+// What a load is refused for: 1 to 3 of its span, then 4 and 5 of K and the field's length.
 pub fn check_load(width: Width, lent: usize, span: Span, k: usize) -> Verdict
     ensures { λ r. ⌜ Judges (loadCases (bits width) lent span k) r ⌝ }
 {
@@ -47,7 +47,7 @@ pub fn check_load(width: Width, lent: usize, span: Span, k: usize) -> Verdict
     check_rows(width, lent, span, k)
 }
 
-// Store: what a load is refused for, then 8.
+// What a store is refused for: what a load is, then 8 where the value is no K-bit integer.
 pub fn check_store(
     width: Width,
     lent: usize,
@@ -72,7 +72,7 @@ pub fn check_store(
     }
 }
 
-// Strict store: 1 to 3, then 4, 5, 8 and 9.
+// What a strict store is refused for: what a store is, then 9 where the value does not fit the field.
 pub fn check_store_strict(
     width: Width,
     lent: usize,
@@ -90,7 +90,7 @@ pub fn check_store_strict(
     }
 }
 
-// Load, row by row: 1 to 3, then 4 and 5.
+// The table of a load, row by row.
 fn check_rows(width: Width, lent: usize, span: Span, k: usize) -> Verdict
     ensures { λ r. ⌜ Judges (loadCases (bits width) lent span k) r ⌝ }
 {
@@ -101,7 +101,7 @@ fn check_rows(width: Width, lent: usize, span: Span, k: usize) -> Verdict
     }
 }
 
-// The same where a word holds the longest field, so that a field has one word or two: what is accepted is seen first, and in one word sooner.
+// The same table where a word holds the longest field, so that a field has one word or two: what is accepted is seen first, and in one word sooner.
 fn check_chunk(width: Width, lent: usize, span: Span, k: usize) -> Verdict
     requires { ⌜ bits width ≡ chunk ⌝ }
     ensures { λ r. ⌜ Judges (loadCases (bits width) lent span k) r ⌝ }
@@ -143,7 +143,7 @@ fn is_begun(lent: usize, word: usize, len: usize, k: usize) -> bool
     is_size(k)
 }
 
-// What a load that is refused is refused for.
+// The refusal of a load that the caller has seen to be refused.
 fn reason(width: Width, lent: usize, span: Span, k: usize) -> Refusal
     requires { ⌜ (verdict (loadCases (bits width) lent span k) ≡ Fine → ⊥) ⌝ }
     ensures { λ r. ⌜ verdict (loadCases (bits width) lent span k) ≡ Refused r ⌝ }

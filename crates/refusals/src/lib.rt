@@ -1,4 +1,5 @@
-// The tables of refusals as code: each check promises the verdict of its table.
+// The tables of refusals as code, before any word is read: each check promises the verdict of its table, which is the first row that holds. (Those
+// of a span alone, and of a place in it, are the span's own `check` and `check_place`.)
 mod fields;
 mod rows;
 mod values;
@@ -13,5 +14,4 @@ pub use rows::check_pair;
 pub use values::check_field;
 pub use values::check_fit;
 pub use values::check_value;
-pub use values::is_integer;
 pub use values::is_size;

@@ -10,7 +10,7 @@ ghost use Rattle.rules.specs.Bits.{bits};
 ghost use Rattle.rules.specs.Refusals.{sameOrder, pairCases, copyCases, withinCases};
 ghost use Rattle.rules.specs.Answers.{Judges};
 
-// Boolean and equal: 1 to 3 of the left span, 1 to 3 of the right one, 6.
+// What a boolean operation and a comparison are refused for: 1 to 3 of the left span, 1 to 3 of the right one, then 6 where their orders differ.
 pub fn check_pair(width: Width, lent: usize, left: Span, right_lent: usize, right: Span) -> Verdict
     ensures { λ r. ⌜ Judges (pairCases (bits width) lent left «right_lent» right) r ⌝ }
 {
@@ -35,7 +35,7 @@ pub fn check_pair(width: Width, lent: usize, left: Span, right_lent: usize, righ
     }
 }
 
-// Copy between and swap: the same, then 7.
+// What a copy between buffers and a swap are refused for: the same, then 7 where the lengths differ.
 pub fn check_copy(width: Width, lent: usize, left: Span, right_lent: usize, right: Span) -> Verdict
     ensures { λ r. ⌜ Judges (copyCases (bits width) lent left «right_lent» right) r ⌝ }
 {
@@ -52,7 +52,8 @@ pub fn check_copy(width: Width, lent: usize, left: Span, right_lent: usize, righ
     }
 }
 
-// Copy inside: 1 to 3, 10. No sum is made that could be too large.
+// What a copy inside a row is refused for: 1 to 3 of its span, then 10 where what is read or written passes the span's end. No sum is made that could
+// be too large.
 pub fn check_copy_within(
     width: Width,
     lent: usize,

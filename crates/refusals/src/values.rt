@@ -10,7 +10,7 @@ ghost use Rattle.rules.specs.Fields.{isSize, whole, isInteger, fits};
 ghost use Rattle.rules.specs.Refusals.{fieldCases, valueCases, fittingCases};
 ghost use Rattle.rules.specs.Answers.{Judges};
 
-// Refusals 4 and 5: K is 8, 16, 32 or 64, and a field has 1 to K bits.
+// What a field is refused for, whatever it holds: 4 where K is not 8, 16, 32 or 64, 5 where it has no bits or more than K.
 pub fn check_field(k: usize, len: usize) -> Verdict
     ensures { λ r. ⌜ Judges (fieldCases k len) r ⌝ }
 {
@@ -27,7 +27,7 @@ pub fn check_field(k: usize, len: usize) -> Verdict
     Verdict::Fine
 }
 
-// Refusals 4, 5 and 8 of a value for a field of `len` bits.
+// What a value is refused for as the contents of a field of `len` bits: what the field is, then 8 where the value is no K-bit integer.
 pub fn check_value(value: Number, k: usize, len: usize, sign: Sign) -> Verdict
     ensures { λ r. ⌜ Judges (valueCases k len sign (whole value)) r ⌝ }
 {
@@ -45,7 +45,7 @@ pub fn check_value(value: Number, k: usize, len: usize, sign: Sign) -> Verdict
     }
 }
 
-// Refusals 4, 5, 8 and 9 of a value that is to fit a field of `len` bits.
+// The same of a value that is to fit: then 9 where it does not.
 pub fn check_fit(value: Number, k: usize, len: usize, sign: Sign) -> Verdict
     ensures { λ r. ⌜ Judges (fittingCases k len sign (whole value)) r ⌝ }
 {
@@ -73,7 +73,7 @@ pub fn is_size(k: usize) -> bool
     k & (k - 1) == 0
 }
 
-// Whether it is a K-bit integer of its sign, for a caller that has seen that K is 1 to 64.
+// Whether a value is a K-bit integer of its sign, for a caller that has seen that K is 1 to 64.
 pub fn is_integer(value: Number, k: usize, sign: Sign) -> bool
     requires { ⌜ (0 < k) × (k ≤ 64) ⌝ }
     ensures { λ r. ⌜ r ≡ isInteger k sign (whole value) ⌝ }
@@ -90,8 +90,8 @@ pub fn is_integer(value: Number, k: usize, sign: Sign) -> bool
     }
 }
 
-// Whether it fits in `len` bits, for a caller that has seen that there are 1 to 64.
-pub fn fits(value: Number, len: usize, sign: Sign) -> bool
+// Whether a value fits in `len` bits, for a caller that has seen that there are 1 to 64.
+fn fits(value: Number, len: usize, sign: Sign) -> bool
     requires { ⌜ (0 < len) × (len ≤ 64) ⌝ }
     ensures { λ r. ⌜ r ≡ fits len sign (whole value) ⌝ }
 {

@@ -86,7 +86,7 @@ pub fn to_i64(value: Number) -> MachineAnswer
     }
 }
 
-// A number whose low K bits are those of a K-bit integer.
+// A number whose low K bits are those of a value, for a caller that has seen that the value is a K-bit integer.
 pub fn bits(value: Number, k: usize, sign: Sign) -> u64
     requires { ⌜ (0 < k) × (k ≤ 64) × (isInteger k sign (whole value) ≡ true) ⌝ }
     ensures { λ r. ⌜ r % 2 ^ k ≡ bitsOf k (whole value) ⌝ }
