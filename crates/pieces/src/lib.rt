@@ -1,20 +1,15 @@
-// What the calls on single bits and fields share at every width: the pieces of a field as numbers, and the refusals before any word is read.
-mod refusals;
-
-pub use refusals::check_bit;
-pub use refusals::check_load;
-pub use refusals::check_store;
-pub use refusals::check_store_strict;
+// What every width shares as numbers: runs of ones, and the pieces of a field.
 use rules::Index;
+use rules::Mask;
 use rules::Order;
 use rules::Position;
 use rules::Significance;
 ghost use mathlib.Core.Path.{_≡_};
 ghost use mathlib.Core.Bool.{true, false};
 ghost use Prim.Native.Nat.{_+_, _-_, _*_, _<_, _≤_, _^_};
-ghost use Rattle.rules.proofs.Field.{lowest};
-ghost use Rattle.rules.proofs.Chunk.{masked};
-ghost use Rattle.rules.proofs.Cuts.{Cuts, pieceOf, joined, firstOf, restOf};
+ghost use Rattle.rules.proofs.fields.Field.{lowest};
+ghost use Rattle.laws.proofs.fields.Chunk.{masked};
+ghost use Rattle.laws.proofs.fields.Cuts.{Cuts, pieceOf, joined, firstOf, restOf};
 
 // How many bits are read and written at once where that pays, and the most that a field has.
 pub const CHUNK: usize = 64;
@@ -79,6 +74,24 @@ pub fn ends_within(width: usize, head: Index, n: usize) -> bool
     n <= width - h
 }
 
+// The n lowest bits, for n of 1 to 64.
+pub fn low_ones(n: usize) -> u64
+    requires { ⌜ (0 < n) × (n ≤ 64) ⌝ }
+    ensures { λ r. ⌜ r ≡ 2 ^ n - 1 ⌝ }
+{
+    0xffff_ffff_ffff_ffff >> (64 - n)
+}
+
+// The mask of the n positions from the lowest up, of which there is one at least, for a caller that has seen that they end with 64.
+pub fn mask_at(lowest: Position, n: usize) -> Mask
+    requires { ⌜ (0 < n) × (lowest .0 + n ≤ 64) ⌝ }
+    ensures { λ r. ⌜ r .0 ≡ (2 ^ n - 1) * 2 ^ lowest .0 ⌝ }
+{
+    let at = lowest.0;
+    let ones = low_ones(n);
+    Mask(ones << at)
+}
+
 // The lowest position of the n bits of a word from index `head` on.
 pub fn lowest_of(width: usize, order: Order, head: Index, n: usize) -> Position
     requires { ⌜ (1 ≤ n) × (head .0 + n ≤ width) ⌝ }
@@ -88,18 +101,6 @@ pub fn lowest_of(width: usize, order: Order, head: Index, n: usize) -> Position
     match order {
         Order::Lsb0 => Position(h),
         Order::Msb0 => Position(width - h - n),
-    }
-}
-
-// How many of 64 bits lie above the bits of a word from index `head` on that are all but `rest` of 64.
-fn room_above(width: usize, order: Order, head: Index, rest: usize) -> usize
-    requires { ⌜ (rest < 64) × (head .0 + (64 - rest) ≤ width) × (width ≤ 64) ⌝ }
-    ensures { λ r. ⌜ r ≡ rest - lowest width order (head .0) (64 - rest) ⌝ }
-{
-    let h = head.0;
-    match order {
-        Order::Lsb0 => rest - h,
-        Order::Msb0 => 64 - width + h,
     }
 }
 
@@ -119,9 +120,9 @@ pub fn with_piece(width: usize, x: u64, order: Order, head: Index, n: usize, v: 
     ensures { λ r. ⌜ (r ≡ masked width x (lowest width order (head .0) n) n v) × (r < 2 ^ width) ⌝ }
 {
     let lowest = lowest_of(width, order, head, n);
-    let mask = lowest.mask(n);
-    let low = rules::low_ones(n);
-    let all = rules::low_ones(width);
+    let mask = mask_at(lowest, n);
+    let low = low_ones(n);
+    let all = low_ones(width);
     let p = lowest.0;
     (x & (all - mask.0)) | (v & low) << p
 }
@@ -156,5 +157,17 @@ pub fn rest_of(significance: Significance, v: u64, k: usize) -> u64
     match significance {
         Significance::Le => v >> k,
         Significance::Be => v,
+    }
+}
+
+// How many of 64 bits lie above the bits of a word from index `head` on that are all but `rest` of 64.
+fn room_above(width: usize, order: Order, head: Index, rest: usize) -> usize
+    requires { ⌜ (rest < 64) × (head .0 + (64 - rest) ≤ width) × (width ≤ 64) ⌝ }
+    ensures { λ r. ⌜ r ≡ rest - lowest width order (head .0) (64 - rest) ⌝ }
+{
+    let h = head.0;
+    match order {
+        Order::Lsb0 => rest - h,
+        Order::Msb0 => 64 - width + h,
     }
 }

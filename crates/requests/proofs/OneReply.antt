@@ -8,7 +8,7 @@ use Rattle.rules.specs.declared.Refusal.{Refusal}
 use Rattle.rules.specs.declared.Refusal.the-variants.{TooManyWords, IndexTooLarge, OutOfBounds, NoSuchK, FieldLength, OrdersDiffer, LengthsDiffer, NotAnInteger, DoesNotFit, NotBelow}
 use Rattle.rules.specs.Refusals.{number}
 use Rattle.rules.specs.Calls.{Answer, refused, done, a-position, a-selector, a-mask, a-span, two-spans, a-bit, a-number, says-yes, says-no, found-at, absent}
-use Rattle.rules.proofs.OneAnswer.{onto, of-number, numbered, of-whole, wholes}
+use Rattle.rules.proofs.refusals.OneAnswer.{onto, of-number, numbered, of-whole, wholes}
 use Rattle.requests.specs.declared.Reply.{Reply}
 use Rattle.requests.specs.declared.Reply.the-variants.{Refused, Done, Bit, Number, Yes, No, At, Absent}
 use Rattle.requests.specs.Requests.{replySays}

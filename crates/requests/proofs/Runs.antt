@@ -8,7 +8,7 @@ use Rattle.rules.specs.Bits.{bitAt}
 use Rattle.rules.specs.Calls.{Answer, refused, answer, after}
 use Rattle.rules.specs.Answers.{Gives}
 use Rattle.rules.specs.Mixtures.{Party, one, two, Of, of, hers, All, answers, final, mixed-answers, mixed-final, told, left, Separate, Within}
-use Rattle.rules.proofs.Isolation.{isolation, isolation-from}
+use Rattle.rules.proofs.isolation.Isolation.{isolation, isolation-from}
 use Rattle.requests.specs.declared.Request.{Request}
 use Rattle.requests.specs.declared.Reply.{Reply}
 use Rattle.requests.specs.Requests.{callOf, replySays}

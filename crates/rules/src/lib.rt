@@ -1,13 +1,7 @@
-// The types that every call speaks of. What is right of them stands in specs/, the laws of that in proofs/, and the methods in the
-// modules below, each named after its file of bitvec where it has one.
+// The types that every call speaks of, and the methods by value that have to stand beside them. What is right of them stands in specs/, the laws of
+// that in proofs/. The other calls without words are functions of the crate `wordless`, and the refusals' code is in `refusals`.
 mod numbers;
-mod order_calls;
 mod span_calls;
-mod value_calls;
-
-pub use order_calls::low_ones;
-pub use value_calls::check_field;
-pub use value_calls::is_size;
 
 // How many bits a word has.
 pub enum Width {

@@ -1,9 +1,24 @@
-// The numbers of refusals and of boolean operations.
+// The numbers that widths, refusals and boolean operations stand for.
 use crate::Operation;
 use crate::Refusal;
+use crate::Width;
 ghost use mathlib.Core.Path.{_≡_};
+ghost use Rattle.rules.specs.Bits.{bits};
 ghost use Rattle.rules.specs.Rows.{operation};
 ghost use Rattle.rules.specs.Refusals.{number};
+
+impl Width {
+    // How many bits a word has.
+    pub fn bits(self) -> usize
+        ensures { λ r. ⌜ r ≡ bits self ⌝ }
+    {
+        let width = self;
+        match width {
+            Width::W8 => 8,
+            Width::W64 => 64,
+        }
+    }
+}
 
 impl Refusal {
     // The number by which document 01 knows it.

@@ -39,6 +39,79 @@ impl Span {
         self.word * width + self.head.0
     }
 
+    // What a span over `lent` words is refused for: 1 where they are more than 65,536, 2 where its head is W or more, 3 where it is not in bounds.
+    pub fn check(self, width: Width, lent: usize) -> Verdict
+        ensures { λ r. ⌜ Judges (spanCases (bits width) lent self) r ⌝ }
+    {
+        let w = width.bits();
+        let head = self.head.0;
+        if 65536 < lent {
+            return Verdict::Refused(Refusal::TooManyWords);
+        }
+        if w <= head {
+            return Verdict::Refused(Refusal::IndexTooLarge);
+        }
+        let outside = self.is_outside(width, lent);
+        if outside {
+            return Verdict::Refused(Refusal::OutOfBounds);
+        }
+        Verdict::Fine
+    }
+
+    // What a place p in a span is refused for: what the span is, then 10 where p is above its length.
+    pub fn check_place(self, width: Width, lent: usize, p: usize) -> Verdict
+        ensures { λ r. ⌜ Judges (splitCases (bits width) lent self p) r ⌝ }
+    {
+        let verdict = self.check(width, lent);
+        match verdict {
+            Verdict::Refused(no) => Verdict::Refused(no),
+            Verdict::Fine => {
+                if self.len < p {
+                    Verdict::Refused(Refusal::NotBelow)
+                } else {
+                    Verdict::Fine
+                }
+            }
+        }
+    }
+
+    // The first p bits and the rest, which begins where bit p would; refused as the place p is.
+    pub fn split(self, width: Width, lent: usize, p: usize) -> SplitAnswer
+        ensures { λ r. ⌜ splitSays r ≡ splitAnswer (bits width) lent self p ⌝ }
+    {
+        let verdict = self.check_place(width, lent, p);
+        match verdict {
+            Verdict::Refused(no) => SplitAnswer::Refused(no),
+            Verdict::Fine => {
+                let left = self.first(p);
+                let rest = self.rest(width, lent, p);
+                SplitAnswer::Parts(Halves { left, rest })
+            }
+        }
+    }
+
+    // The first p bits; refused as the place p is.
+    pub fn shorten(self, width: Width, lent: usize, p: usize) -> SpanAnswer
+        ensures { λ r. ⌜ spanSays r ≡ shortenAnswer (bits width) lent self p ⌝ }
+    {
+        let verdict = self.check_place(width, lent, p);
+        match verdict {
+            Verdict::Refused(no) => SpanAnswer::Refused(no),
+            Verdict::Fine => SpanAnswer::Is(self.first(p)),
+        }
+    }
+
+    // What is left after the first p bits; refused as the place p is.
+    pub fn shift(self, width: Width, lent: usize, p: usize) -> SpanAnswer
+        ensures { λ r. ⌜ spanSays r ≡ shiftAnswer (bits width) lent self p ⌝ }
+    {
+        let verdict = self.check_place(width, lent, p);
+        match verdict {
+            Verdict::Refused(no) => SpanAnswer::Refused(no),
+            Verdict::Fine => SpanAnswer::Is(self.rest(width, lent, p)),
+        }
+    }
+
     // Whether a span is not in bounds, for a caller that has seen that 1 and 2 do not hold. Nothing is summed before it is known to be small, so any
     // numbers get an answer: where no word is left, there is room for no bit at head 0.
     fn is_outside(self, width: Width, lent: usize) -> bool
@@ -61,42 +134,6 @@ impl Span {
         (lent - word) * w - head < len
     }
 
-    // Refusals 1 to 3 over `lent` words.
-    pub fn check(self, width: Width, lent: usize) -> Verdict
-        ensures { λ r. ⌜ Judges (spanCases (bits width) lent self) r ⌝ }
-    {
-        let w = width.bits();
-        let head = self.head.0;
-        if 65536 < lent {
-            return Verdict::Refused(Refusal::TooManyWords);
-        }
-        if w <= head {
-            return Verdict::Refused(Refusal::IndexTooLarge);
-        }
-        let outside = self.is_outside(width, lent);
-        if outside {
-            return Verdict::Refused(Refusal::OutOfBounds);
-        }
-        Verdict::Fine
-    }
-
-    // Refusals 1 to 3, and 10 where the place p is above the length.
-    pub fn check_place(self, width: Width, lent: usize, p: usize) -> Verdict
-        ensures { λ r. ⌜ Judges (splitCases (bits width) lent self p) r ⌝ }
-    {
-        let verdict = self.check(width, lent);
-        match verdict {
-            Verdict::Refused(no) => Verdict::Refused(no),
-            Verdict::Fine => {
-                if self.len < p {
-                    Verdict::Refused(Refusal::NotBelow)
-                } else {
-                    Verdict::Fine
-                }
-            }
-        }
-    }
-
     // The first p bits of a span that has as many.
     fn first(self, p: usize) -> Span
         ensures { λ r. ⌜ r ≡ firstHalf self p ⌝ }
@@ -117,42 +154,5 @@ impl Span {
         let head = t % w;
         let len = self.len - p;
         Span::new(order, word, head, len)
-    }
-
-    // The first p bits and the rest, which begins where bit p would; 1 to 3, and 10 where p is above the length.
-    pub fn split(self, width: Width, lent: usize, p: usize) -> SplitAnswer
-        ensures { λ r. ⌜ splitSays r ≡ splitAnswer (bits width) lent self p ⌝ }
-    {
-        let verdict = self.check_place(width, lent, p);
-        match verdict {
-            Verdict::Refused(no) => SplitAnswer::Refused(no),
-            Verdict::Fine => {
-                let left = self.first(p);
-                let rest = self.rest(width, lent, p);
-                SplitAnswer::Parts(Halves { left, rest })
-            }
-        }
-    }
-
-    // The first p bits; refused as split is.
-    pub fn shorten(self, width: Width, lent: usize, p: usize) -> SpanAnswer
-        ensures { λ r. ⌜ spanSays r ≡ shortenAnswer (bits width) lent self p ⌝ }
-    {
-        let verdict = self.check_place(width, lent, p);
-        match verdict {
-            Verdict::Refused(no) => SpanAnswer::Refused(no),
-            Verdict::Fine => SpanAnswer::Is(self.first(p)),
-        }
-    }
-
-    // What is left after the first p bits; refused as split is.
-    pub fn shift(self, width: Width, lent: usize, p: usize) -> SpanAnswer
-        ensures { λ r. ⌜ spanSays r ≡ shiftAnswer (bits width) lent self p ⌝ }
-    {
-        let verdict = self.check_place(width, lent, p);
-        match verdict {
-            Verdict::Refused(no) => SpanAnswer::Refused(no),
-            Verdict::Fine => SpanAnswer::Is(self.rest(width, lent, p)),
-        }
     }
 }

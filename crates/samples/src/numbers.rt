@@ -181,28 +181,28 @@ fn machine_numbers() {
 
 fn field(name: &[u8], k: usize, len: usize) {
     show::text(name);
-    show::verdict(rules::check_field(k, len));
+    show::verdict(refusals::check_field(k, len));
     show::end();
 }
 
 fn value(name: &[u8], k: usize, len: usize, sign: Sign, value: Number) {
     show::text(name);
-    show::low_bits(value.low_bits(k, len, sign));
+    show::low_bits(wordless::low_bits(value, k, len, sign));
     show::next();
-    show::low_bits(value.fitting_bits(k, len, sign));
+    show::low_bits(wordless::fitting_bits(value, k, len, sign));
     show::end();
 }
 
 fn loaded(name: &[u8], bits: u64, k: usize, len: usize) {
     show::text(name);
-    show::loaded(Number::read(bits, k, len, Sign::Unsigned));
+    show::loaded(wordless::read(bits, k, len, Sign::Unsigned));
     show::next();
-    show::loaded(Number::read(bits, k, len, Sign::Signed));
+    show::loaded(wordless::read(bits, k, len, Sign::Signed));
     show::end();
 }
 
 fn machine(name: &[u8], value: Number) {
     show::text(name);
-    show::machine(value.to_i64());
+    show::machine(wordless::to_i64(value));
     show::end();
 }

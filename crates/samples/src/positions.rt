@@ -131,24 +131,24 @@ fn masks_of_words() {
 
 fn position(name: &[u8], width: Width, index: usize) {
     show::text(name);
-    show::position(Order::Lsb0.at(width, Index(index)));
+    show::position(wordless::position(width, Order::Lsb0, Index(index)));
     show::next();
-    show::position(Order::Msb0.at(width, Index(index)));
+    show::position(wordless::position(width, Order::Msb0, Index(index)));
     show::end();
 }
 
 fn selector(name: &[u8], width: Width, index: usize) {
     show::text(name);
-    show::selector(Order::Lsb0.select(width, Index(index)));
+    show::selector(wordless::selector(width, Order::Lsb0, Index(index)));
     show::next();
-    show::selector(Order::Msb0.select(width, Index(index)));
+    show::selector(wordless::selector(width, Order::Msb0, Index(index)));
     show::end();
 }
 
 fn mask(name: &[u8], width: Width, from: usize, upto: usize) {
     show::text(name);
-    show::mask(Order::Lsb0.mask(width, Index(from), End(upto)));
+    show::mask(wordless::mask(width, Order::Lsb0, Index(from), End(upto)));
     show::next();
-    show::mask(Order::Msb0.mask(width, Index(from), End(upto)));
+    show::mask(wordless::mask(width, Order::Msb0, Index(from), End(upto)));
     show::end();
 }

@@ -107,7 +107,7 @@ pub fn low_bits(a: LowBitsAnswer) {
 
 pub fn machine(a: MachineAnswer) {
     match a {
-        MachineAnswer::Is(z) => number(Number::from_i64(z)),
+        MachineAnswer::Is(z) => number(wordless::from_i64(z)),
         MachineAnswer::Refused(no) => refusal(no),
     }
 }

@@ -1,6 +1,6 @@
 -- `first_of` is `firstOf`, by the case of the significance. Assumes nothing.
 use borrow.Author.Needs.{needs}
-use Rattle.rules.proofs.Cuts.{firstOf}
+use Rattle.laws.proofs.fields.Cuts.{firstOf}
 use Rattle.pieces.proofs.first_of.Statement.{statement}
 use Rattle.pieces.proofs.first_of.Tie as tie
 

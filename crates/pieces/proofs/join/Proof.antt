@@ -3,7 +3,7 @@ use borrow.Author.Needs.{needs}
 use lib.Pow.{shl-exact}
 use lib.Bits.{or-shifted}
 use native.Mathlib.Omega.{arith}
-use Rattle.rules.proofs.Cuts.{joined}
+use Rattle.laws.proofs.fields.Cuts.{joined}
 use Rattle.pieces.proofs.join.Statement.{statement}
 use Rattle.pieces.proofs.join.Tie as tie
 

@@ -1,7 +1,7 @@
 -- `lowest_of` is `lowest`, by the case of the order. Assumes nothing.
 use borrow.Author.Needs.{needs}
 use native.Mathlib.Omega.{arith}
-use Rattle.rules.proofs.Field.{lowest}
+use Rattle.rules.proofs.fields.Field.{lowest}
 use Rattle.pieces.proofs.lowest_of.Statement.{statement}
 use Rattle.pieces.proofs.lowest_of.Tie as tie
 

@@ -3,9 +3,9 @@ use borrow.Author.Needs.{needs}
 use mathlib.Core.Path.{_≡_, ap, _∙_}
 use Prim.Native.Nat.{ℕ, _*_, _-_, _/_, _%_, _^_}
 use native.Mathlib.Omega.{arith}
-use Rattle.rules.proofs.Field.{lowest}
-use Rattle.rules.proofs.Chunk.{lowest-fits}
-use Rattle.rules.proofs.Cuts.{pieceOf, shifted, piece-lt}
+use Rattle.rules.proofs.fields.Field.{lowest}
+use Rattle.laws.proofs.fields.Chunk.{lowest-fits}
+use Rattle.laws.proofs.fields.Cuts.{pieceOf, shifted, piece-lt}
 use Rattle.pieces.proofs.piece.Statement.{statement}
 use Rattle.pieces.proofs.piece.Tie as tie
 

@@ -1,6 +1,6 @@
 -- `rest_of` is `restOf`, by the case of the significance. Assumes nothing.
 use borrow.Author.Needs.{needs}
-use Rattle.rules.proofs.Cuts.{restOf}
+use Rattle.laws.proofs.fields.Cuts.{restOf}
 use Rattle.pieces.proofs.rest_of.Statement.{statement}
 use Rattle.pieces.proofs.rest_of.Tie as tie
 

@@ -1,7 +1,7 @@
 -- `room_above` is what 64 bits have above them, by the case of the order. Assumes nothing.
 use borrow.Author.Needs.{needs}
 use native.Mathlib.Omega.{arith}
-use Rattle.rules.proofs.Field.{lowest}
+use Rattle.rules.proofs.fields.Field.{lowest}
 use Rattle.pieces.proofs.room_above.Statement.{statement}
 use Rattle.pieces.proofs.room_above.Tie as tie
 

@@ -1,7 +1,7 @@
 -- `Cut::across`: what does not lie in the first word is divided by the width, or is less than a word. Assumes nothing.
 use borrow.Author.Needs.{needs}
 use native.Mathlib.Omega.{arith}
-use Rattle.rules.proofs.Cuts.{cut-two, cut-more}
+use Rattle.laws.proofs.fields.Cuts.{cut-two, cut-more}
 use Rattle.pieces.proofs.Cut.across.Statement.{statement}
 use Rattle.pieces.proofs.Cut.across.Tie as tie
 

@@ -4,8 +4,8 @@ use Rattle.rules.proofs.Span.check.Statement.{statement}
 use Rattle.rules.proofs.Span.check.Tie as tie
 use mathlib.Core.Path.{sym, _∙_}
 use native.Mathlib.Omega.{arith}
-use Rattle.rules.proofs.Tables.{refused-1, refused-2, refused-3, none-refused}
-use Rattle.rules.proofs.OneAnswer.{judges}
+use Rattle.rules.proofs.refusals.Tables.{refused-1, refused-2, refused-3, none-refused}
+use Rattle.rules.proofs.refusals.OneAnswer.{judges}
 
 bits-requires : tie.Need-bits-requires
 bits-requires c κs = search needs

@@ -5,8 +5,8 @@ use Rattle.rules.proofs.Span.check_place.Tie as tie
 use mathlib.Core.Path.{sym, _∙_}
 use borrow.Author.Tests.{lt-ltb, le-ltb}
 use Rattle.rules.specs.Refusals.{splitCases}
-use Rattle.rules.proofs.Tables.{stops, last-holds, last-clear}
-use Rattle.rules.proofs.OneAnswer.{judged, judges}
+use Rattle.rules.proofs.refusals.Tables.{stops, last-holds, last-clear}
+use Rattle.rules.proofs.refusals.OneAnswer.{judged, judges}
 
 check-requires : tie.Need-check-requires
 check-requires c κs = search needs

@@ -8,8 +8,8 @@ use Prim.Native.Nat.{ℕ, _-_, _*_}
 use lib.Dec.{ltb}
 use Rattle.rules.specs.Bits.{bits}
 use Rattle.rules.specs.Positions.{inBounds}
-use Rattle.rules.proofs.Room.{none-left, some-left, no-word, no-room, by-room}
-use Rattle.rules.proofs.Widths.{room-fits}
+use Rattle.rules.proofs.refusals.Room.{none-left, some-left, no-word, no-room, by-room}
+use Rattle.rules.proofs.refusals.Widths.{room-fits}
 
 bits-requires : tie.Need-bits-requires
 bits-requires c κs = search needs

@@ -5,9 +5,9 @@ use Rattle.rules.proofs.Span.rest.Tie as tie
 use native.Mathlib.Omega.{arith}
 use Prim.Native.Nat.{_+_}
 use Rattle.rules.specs.Bits.{bits}
-use Rattle.rules.proofs.Room.{word-upto}
-use Rattle.rules.proofs.Widths.{bits-pos, room-fits}
-use Rattle.rules.proofs.Accepted.{Place, fine-place}
+use Rattle.rules.proofs.refusals.Room.{word-upto}
+use Rattle.rules.proofs.refusals.Widths.{bits-pos, room-fits}
+use Rattle.rules.proofs.refusals.Accepted.{Place, fine-place}
 
 inside : (c : tie.Start) → Place (bits (c .args .width)) (c .args .lent) (c .args .self) (c .args .p)
 inside c = fine-place _ _ _ _ (c .pre)

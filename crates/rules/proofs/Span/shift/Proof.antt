@@ -4,8 +4,7 @@ use Rattle.rules.proofs.Span.shift.Statement.{statement}
 use Rattle.rules.proofs.Span.shift.Tie as tie
 use mathlib.Core.Path.{sym, ap, _∙_}
 use Rattle.rules.specs.Calls.{shiftAnswer, a-span}
-use Rattle.rules.proofs.Wordless.{said-refused, said-fine}
-use Rattle.rules.proofs.OneAnswer.{judged}
+use Rattle.rules.proofs.refusals.OneAnswer.{said-refused, said-fine, judged}
 
 check-place-requires : tie.Need-check-place-requires
 check-place-requires c κs = search needs

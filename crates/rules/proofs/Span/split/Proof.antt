@@ -4,8 +4,7 @@ use Rattle.rules.proofs.Span.split.Statement.{statement}
 use Rattle.rules.proofs.Span.split.Tie as tie
 use mathlib.Core.Path.{sym, ap₂, _∙_}
 use Rattle.rules.specs.Calls.{splitAnswer, two-spans}
-use Rattle.rules.proofs.Wordless.{said-refused, said-fine}
-use Rattle.rules.proofs.OneAnswer.{judged}
+use Rattle.rules.proofs.refusals.OneAnswer.{said-refused, said-fine, judged}
 
 check-place-requires : tie.Need-check-place-requires
 check-place-requires c κs = search needs

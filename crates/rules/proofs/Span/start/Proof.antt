@@ -6,7 +6,7 @@ use Prim.Native.Nat.{_*_, _≤_}
 use native.Mathlib.Nat.{mul-le-mul}
 use native.Mathlib.Omega.{arith}
 use Rattle.rules.specs.Positions.{start}
-use Rattle.rules.proofs.Room.{product-fits}
+use Rattle.rules.proofs.refusals.Room.{product-fits}
 
 before : (c : tie.Start) → c .args .self .word * c .args .width ≤ 65536 * c .args .width
 before c = mul-le-mul {n₁ = c .args .self .word} {m₁ = c .args .width} {n₂ = 65536} {m₂ = c .args .width} (c .pre .0) (omega arith)

@@ -1,0 +1,5 @@
+pub mod Bounds
+pub mod Machine
+pub mod Sizes
+pub mod Wordless
+pub mod Zeros

@@ -1,0 +1,8 @@
+pub mod Word
+pub mod Part
+pub mod Copy
+pub mod Scratch
+pub mod InPlace
+pub mod Filled
+pub mod RowCalls
+pub mod Reading

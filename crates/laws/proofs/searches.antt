@@ -1,0 +1,3 @@
+pub mod WordSearch
+pub mod Alike
+pub mod RowSearch

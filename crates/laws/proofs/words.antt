@@ -1,0 +1,6 @@
+pub mod Funnel
+pub mod Moves
+pub mod Merged
+pub mod Wholes
+pub mod Combine
+pub mod Agree

@@ -1,0 +1,4 @@
+pub mod Bit
+pub mod Weigh
+pub mod Digits
+pub mod Masks

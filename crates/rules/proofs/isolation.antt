@@ -1,0 +1,5 @@
+pub mod Parties
+pub mod Footprints
+pub mod Isolation
+pub mod IsolationExample
+pub mod Tight

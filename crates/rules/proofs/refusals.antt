@@ -1,0 +1,5 @@
+pub mod Tables
+pub mod Accepted
+pub mod OneAnswer
+pub mod Room
+pub mod Widths

@@ -1,0 +1,6 @@
+pub mod Sentences
+pub mod FieldSentences
+pub mod FieldByPieces
+pub mod RowSentences
+pub mod SearchSentences
+pub mod Unread
