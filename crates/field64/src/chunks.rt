@@ -6,8 +6,7 @@ ghost use mathlib.Core.Path.{_≡_};
 ghost use Prim.Native.Nat.{_+_, _*_, _^_, _<_, _≤_};
 ghost use lib.ListN.{length};
 ghost use Rattle.rules.specs.Fields.{loadOf, storeOf};
-ghost use Rattle.rules.proofs.Chunk.{own};
-ghost use Rattle.rules.proofs.Chunks.{chunk};
+ghost use Rattle.laws.proofs.fields.Chunk.{own, chunk};
 
 // The chunk that begins with word `at`.
 pub fn chunk_at(words: &[u64], order: Order, at: usize) -> u64

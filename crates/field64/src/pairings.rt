@@ -17,7 +17,7 @@ ghost use Prim.Native.Nat.{_+_, _*_, _^_, _<_, _≤_};
 ghost use lib.ListN.{length};
 ghost use Rattle.word64.specs.Width.{W};
 ghost use Rattle.rules.specs.Fields.{loadOf, storeOf};
-ghost use Rattle.rules.proofs.Chunks.{chunk};
+ghost use Rattle.laws.proofs.fields.Chunk.{chunk};
 
 // The number that a field holds, for callers that know the span to be in bounds.
 pub fn load_by(

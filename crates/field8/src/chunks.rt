@@ -11,9 +11,8 @@ ghost use lib.ListN.{length};
 ghost use Rattle.rules.specs.declared.Order.{Order};
 ghost use Rattle.rules.specs.declared.Significance.the-variants.{Le};
 ghost use Rattle.rules.specs.Fields.{loadOf, storeOf};
-ghost use Rattle.rules.proofs.Chunk.{own};
-ghost use Rattle.rules.proofs.Chunks.{chunk};
-ghost use Rattle.rules.proofs.Turned.{turned};
+ghost use Rattle.laws.proofs.fields.Chunk.{own, chunk};
+ghost use Rattle.laws.proofs.fields.Turned.{turned};
 
 // Two words from word `at` on, by le.
 fn two_at(words: &[u8], at: usize) -> u64

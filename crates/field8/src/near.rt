@@ -17,8 +17,7 @@ ghost use Prim.Native.Nat.{_+_, _*_, _^_, _<_, _≤_};
 ghost use lib.ListN.{length};
 ghost use Rattle.word8.specs.Width.{W};
 ghost use Rattle.rules.specs.Fields.{loadOf, storeOf};
-ghost use Rattle.rules.proofs.Chunk.{own};
-ghost use Rattle.rules.proofs.Chunks.{chunk};
+ghost use Rattle.laws.proofs.fields.Chunk.{own, chunk};
 
 // The number that such a field holds, where the chunk lies within the lent words.
 pub fn load_near(

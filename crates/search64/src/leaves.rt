@@ -9,8 +9,8 @@ ghost use mathlib.Core.Path.{_≡_};
 ghost use Prim.Native.Nat.{_+_, _-_, _*_, _≤_};
 ghost use lib.ListN.{length, getD};
 ghost use Rattle.word64.specs.Width.{W};
-ghost use Rattle.rules.proofs.WordSearch.{masked};
-ghost use Rattle.rules.proofs.Alike.{Alike, Gathered};
+ghost use Rattle.laws.proofs.searches.WordSearch.{masked};
+ghost use Rattle.laws.proofs.searches.Alike.{Alike, Gathered};
 
 // The bits that are sought among the n from index `head` of word k on, as the ones of a word.
 pub fn sought_in(

@@ -6,7 +6,7 @@ use word64::Word;
 ghost use mathlib.Core.Logic.{_≢_};
 ghost use Prim.Native.Nat.{_-_, _≤_, _<_};
 ghost use lib.ListN.{length, getD};
-ghost use Rattle.rules.proofs.Alike.{Alike};
+ghost use Rattle.laws.proofs.searches.Alike.{Alike};
 
 // How many words a large and a small block have.
 const LARGE: usize = 80;

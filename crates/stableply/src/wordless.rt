@@ -20,7 +20,7 @@ fn position(width: Width, order: u8, index: usize, out: &mut u64) -> u8
         return 255;
     }
     let named = order_of(order);
-    leave_position(named.at(width, Index(index)), out)
+    leave_position(wordless::position(width, named, Index(index)), out)
 }
 
 // The real position of an index in a word.
@@ -44,7 +44,7 @@ fn selector(width: Width, order: u8, index: usize, out: &mut u64) -> u8
         return 255;
     }
     let named = order_of(order);
-    leave_selector(named.select(width, Index(index)), out)
+    leave_selector(wordless::selector(width, named, Index(index)), out)
 }
 
 // The selector of an index in a word: 2 to its position.
@@ -68,7 +68,7 @@ fn mask(width: Width, order: u8, from: usize, upto: usize, out: &mut u64) -> u8
         return 255;
     }
     let named = order_of(order);
-    leave_mask(named.mask(width, Index(from), End(upto)), out)
+    leave_mask(wordless::mask(width, named, Index(from), End(upto)), out)
 }
 
 // The mask of the indexes from `from` up to but without `upto`.

@@ -1,7 +1,7 @@
 // Swap of two rows in two buffers of words of 64 bits. Rows at the same head are exchanged in place, word by word. Rows at different heads
 // go block by block: the left block waits in scratch words while the right one is copied over it.
-use checks::check_copy;
 use copy64::copy_row;
+use refusals::check_copy;
 use rules::Order;
 use rules::Span;
 use rules::Verdict;

@@ -1,6 +1,6 @@
 // Copy within one buffer of words of 64 bits, in place and without scratch words: a piece, whole words, a piece. Downward, the last bits
 // first, exactly if the source range contains the destination; else upward.
-use checks::check_copy_within;
+use refusals::check_copy_within;
 use rules::Index;
 use rules::Order;
 use rules::Span;
@@ -22,7 +22,7 @@ ghost use Rattle.rules.specs.declared.Order.{Order};
 ghost use Rattle.rules.specs.Rows.{moved};
 ghost use Rattle.rules.specs.Calls.{copyWithin, answer, after};
 ghost use Rattle.rules.specs.Answers.{writeSays, Gives};
-ghost use Rattle.rules.proofs.Row.{Words};
+ghost use Rattle.rules.proofs.rows.Row.{Words};
 
 // Bit destination + i of the span becomes the old bit start + i, for all i below count, as if all were read first. Refusals 1 to 3, 10.
 pub fn copy_within(

@@ -15,9 +15,9 @@ ghost use lib.ListN.{length, getD};
 ghost use Rattle.word8.specs.Width.{W};
 ghost use Rattle.rules.specs.Bits.{bitN};
 ghost use Rattle.rules.specs.Positions.{position, mask, row, spliced};
-ghost use Rattle.rules.proofs.Funnel.{funneled};
-ghost use Rattle.rules.proofs.Merged.{selected};
-ghost use Rattle.rules.proofs.Moves.{downOf, upOf, Carries};
+ghost use Rattle.laws.proofs.words.Funnel.{funneled};
+ghost use Rattle.laws.proofs.words.Merged.{selected};
+ghost use Rattle.laws.proofs.words.Moves.{downOf, upOf, Carries};
 
 // A word of 8 bits.
 pub type Word = u8;

@@ -9,7 +9,7 @@ ghost use Rattle.word8.specs.Width.{W};
 ghost use Rattle.rules.specs.Bits.{bitN};
 ghost use Rattle.rules.specs.Positions.{position};
 ghost use Rattle.rules.specs.Rows.{firstWith, lastWith};
-ghost use Rattle.rules.proofs.WordSearch.{flipped};
+ghost use Rattle.laws.proofs.searches.WordSearch.{flipped};
 
 // What turns the sought bits of a word into ones, by exclusive or: no bit, or all.
 pub fn flip(sought: bool) -> Word

@@ -1,7 +1,7 @@
 // Boolean operations on two rows of words of 32 bits, the result into the left one. An operation is the number of its truth table: the
 // result for left bit a and right bit b is bit 2a + b of it (and 8, or 14, xor 6). The left row is cut into a first piece up to a word's
 // end, whole words and a last piece.
-use checks::check_pair;
+use refusals::check_pair;
 use rules::Index;
 use rules::Order;
 use rules::Span;
@@ -25,9 +25,9 @@ ghost use Rattle.rules.specs.Positions.{position, row, spliced};
 ghost use Rattle.rules.specs.Rows.{applied};
 ghost use Rattle.rules.specs.Calls.{boolean, answer, after};
 ghost use Rattle.rules.specs.Answers.{writeSays, Gives};
-ghost use Rattle.rules.proofs.Funnel.{funneled};
-ghost use Rattle.rules.proofs.Merged.{selected};
-ghost use Rattle.rules.proofs.Combine.{wordwise, spreadOf};
+ghost use Rattle.laws.proofs.words.Funnel.{funneled};
+ghost use Rattle.laws.proofs.words.Merged.{selected};
+ghost use Rattle.laws.proofs.words.Combine.{wordwise, spreadOf};
 
 // Each bit of the left span becomes the operation of it and the right span's bit of the same index; where the right span has ended, its
 // bits count as 0. Refusals 1 to 3 of the left, 1 to 3 of the right, 6.

@@ -1,6 +1,6 @@
 // Copy from one buffer of words of 32 bits to another. The target's row is cut into a first piece up to a word's end, whole words and a
 // last piece, so that each of its words is written once.
-use checks::check_copy;
+use refusals::check_copy;
 use rules::Index;
 use rules::Order;
 use rules::Span;
@@ -20,7 +20,7 @@ ghost use Rattle.word32.specs.Width.{W};
 ghost use Rattle.rules.specs.Positions.{row, spliced};
 ghost use Rattle.rules.specs.Calls.{copyFrom, answer, after};
 ghost use Rattle.rules.specs.Answers.{writeSays, Gives};
-ghost use Rattle.rules.proofs.Funnel.{funneled};
+ghost use Rattle.laws.proofs.words.Funnel.{funneled};
 
 // Each bit of the target's span becomes the source span's bit of the same index; the lengths are equal. Refusals 1 to 3 of the target, 1 to
 // 3 of the source, 6, 7.

@@ -1,6 +1,6 @@
 // Equality of two rows of words of 32 bits. The left row is cut into a first piece, whole words and a last piece. Words are compared in
 // blocks with no exit inside, since the compiler makes vector code of such a loop alone.
-use checks::check_pair;
+use refusals::check_pair;
 use rules::EqualAnswer;
 use rules::Index;
 use rules::Order;
@@ -22,8 +22,8 @@ ghost use Rattle.rules.specs.Positions.{row};
 ghost use Rattle.rules.specs.Rows.{sameBits};
 ghost use Rattle.rules.specs.Calls.{equal, here, there, answer};
 ghost use Rattle.rules.specs.Answers.{equalSays};
-ghost use Rattle.rules.proofs.Funnel.{funneled};
-ghost use Rattle.rules.proofs.Agree.{Differs, Tells};
+ghost use Rattle.laws.proofs.words.Funnel.{funneled};
+ghost use Rattle.laws.proofs.words.Agree.{Differs, Tells};
 
 // How many words are compared before the first look at whether they differ.
 const BLOCK: usize = 128;

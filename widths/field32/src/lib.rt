@@ -32,15 +32,15 @@ ghost use Rattle.rules.specs.Answers.{bitSays, numberSays, writeSays, Gives};
 pub fn read_bit(words: &[Word], span: Span, index: usize) -> BitAnswer
     ensures { λ r. ⌜ bitSays r ≡ answer W (readBit span index) (now (words .entry)) ⌝ }
 {
-    let verdict = pieces::check_bit(Width::W32, words.len(), span, index);
+    let verdict = refusals::check_bit(Width::W32, words.len(), span, index);
     match verdict {
         Verdict::Refused(no) => BitAnswer::Refused(no),
         Verdict::Fine => {
             let order = span.order;
             let t = span.head.0 + index;
             let word = span.word + t / W;
-            let position = Index(t % W).position(Width::W32, order);
-            let selector = position.select();
+            let position = wordless::position_of(Width::W32, order, Index(t % W));
+            let selector = wordless::selector_at(position);
             let x = word_at(words, word);
             BitAnswer::Is(x & selector.0 != 0)
         }
@@ -51,7 +51,7 @@ pub fn read_bit(words: &[Word], span: Span, index: usize) -> BitAnswer
 pub fn write_bit(words: &mut [Word], span: Span, index: usize, bit: bool) -> WriteAnswer
     ensures { λ r. ⌜ Gives W (writeBit span index bit) (now (words .entry)) (writeSays r) (now (words .exit)) ⌝ }
 {
-    let verdict = pieces::check_bit(Width::W32, words.len(), span, index);
+    let verdict = refusals::check_bit(Width::W32, words.len(), span, index);
     match verdict {
         Verdict::Refused(no) => WriteAnswer::Refused(no),
         Verdict::Fine => {
@@ -75,14 +75,14 @@ pub fn load(
 ) -> NumberAnswer
     ensures { λ r. ⌜ numberSays r ≡ answer W (loadCall span k significance sign) (now (words .entry)) ⌝ }
 {
-    let verdict = pieces::check_load(Width::W32, words.len(), span, k);
+    let verdict = refusals::check_load(Width::W32, words.len(), span, k);
     match verdict {
         Verdict::Refused(no) => NumberAnswer::Refused(no),
         Verdict::Fine => {
             let order = span.order;
             let len = span.len;
             let u = load_by(words, order, significance, span.word, span.head, len);
-            NumberAnswer::Is(Number::of_bits(u, len, sign))
+            NumberAnswer::Is(wordless::of_bits(u, len, sign))
         }
     }
 }
@@ -98,12 +98,12 @@ pub fn store(
 ) -> WriteAnswer
     ensures { λ r. ⌜ Gives W (storeCall span k significance sign (whole value)) (now (words .entry)) (writeSays r) (now (words .exit)) ⌝ }
 {
-    let verdict = pieces::check_store(Width::W32, words.len(), span, k, sign, value);
+    let verdict = refusals::check_store(Width::W32, words.len(), span, k, sign, value);
     match verdict {
         Verdict::Refused(no) => WriteAnswer::Refused(no),
         Verdict::Fine => {
             let order = span.order;
-            let v = value.bits(k, sign);
+            let v = wordless::bits(value, k, sign);
             store_by(
                 words,
                 order,
@@ -129,12 +129,12 @@ pub fn store_strict(
 ) -> WriteAnswer
     ensures { λ r. ⌜ Gives W (storeStrict span k significance sign (whole value)) (now (words .entry)) (writeSays r) (now (words .exit)) ⌝ }
 {
-    let verdict = pieces::check_store_strict(Width::W32, words.len(), span, k, sign, value);
+    let verdict = refusals::check_store_strict(Width::W32, words.len(), span, k, sign, value);
     match verdict {
         Verdict::Refused(no) => WriteAnswer::Refused(no),
         Verdict::Fine => {
             let order = span.order;
-            let v = value.bits(k, sign);
+            let v = wordless::bits(value, k, sign);
             store_by(
                 words,
                 order,

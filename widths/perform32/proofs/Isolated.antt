@@ -9,7 +9,7 @@ use Rattle.word32.specs.Width.{W}
 use Rattle.rules.specs.Calls.{answer, after}
 use Rattle.rules.specs.Answers.{Gives}
 use Rattle.rules.specs.Mixtures.{Party, Of, All, Asked, Separate, Within, Isolated}
-use Rattle.rules.proofs.Isolation.{isolation}
+use Rattle.rules.proofs.isolation.Isolation.{isolation}
 use Rattle.requests.specs.declared.Request.{Request}
 use Rattle.requests.specs.declared.Reply.{Reply}
 use Rattle.requests.specs.Requests.{callOf, replySays}

@@ -164,7 +164,7 @@ pub extern "C" fn stableply32_store_strict(
     let span = span_of(order, word, head, length);
     let named = sign_of(sign);
     let number = number_of(below, value);
-    let verdict = pieces::check_store_strict(Width::W32, words.len(), span, k, named, number);
+    let verdict = refusals::check_store_strict(Width::W32, words.len(), span, k, named, number);
     match verdict {
         Verdict::Refused(no) => no.number(),
         Verdict::Fine => stableply32_store(

@@ -1,6 +1,6 @@
 // Swap of two rows in two buffers of words of 32 bits. Rows at the same head are exchanged in place, word by word. Rows at different heads
 // go block by block: the left block waits in scratch words while the right one is copied over it.
-use checks::check_copy;
+use refusals::check_copy;
 use copy32::copy_row;
 use rules::Order;
 use rules::Span;

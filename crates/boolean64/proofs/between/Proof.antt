@@ -8,8 +8,8 @@ use borrow.Author.Needs.{needs}
 use denote.Ref.{now}
 use Rattle.word64.specs.Width.{W}
 use Rattle.rules.specs.Positions.{row}
-use Rattle.rules.proofs.RowPieces.{on-word}
-use Rattle.rules.proofs.Combine.{combined-on}
+use Rattle.laws.proofs.rows.Part.{on-word}
+use Rattle.laws.proofs.words.Combine.{combined-on}
 use Rattle.boolean64.proofs.between.Statement.{statement}
 use Rattle.boolean64.proofs.between.Tie as tie
 

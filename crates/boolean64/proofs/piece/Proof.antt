@@ -8,7 +8,7 @@ use denote.Ref.{now}
 use Rattle.word64.specs.Width.{W}
 use Rattle.rules.specs.Bits.{bitN}
 use Rattle.rules.specs.Positions.{position}
-use Rattle.rules.proofs.Combine.{piece-combined}
+use Rattle.laws.proofs.words.Combine.{piece-combined}
 use Rattle.boolean64.proofs.piece.Statement.{statement}
 use Rattle.boolean64.proofs.piece.Tie as tie
 

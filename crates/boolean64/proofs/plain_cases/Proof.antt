@@ -5,7 +5,7 @@ use lib.ListN.{getD}
 use borrow.Author.Needs.{needs}
 use denote.Ref.{now}
 use Rattle.word64.specs.Width.{W}
-use Rattle.rules.proofs.Combine.{wordwise}
+use Rattle.laws.proofs.words.Combine.{wordwise}
 use Rattle.boolean64.proofs.plain_cases.Statement.{statement}
 use Rattle.boolean64.proofs.plain_cases.Tie as tie
 

@@ -2,7 +2,7 @@
 use borrow.Author.Needs.{needs}
 use Rattle.word64.specs.Width.{W}
 use Rattle.rules.specs.Bits.{bitN}
-use Rattle.rules.proofs.Combine.{spread-zero, spread-one}
+use Rattle.laws.proofs.words.Combine.{spread-zero, spread-one}
 use Rattle.boolean64.proofs.spread.Statement.{statement}
 use Rattle.boolean64.proofs.spread.Tie as tie
 

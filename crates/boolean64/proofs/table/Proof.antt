@@ -1,7 +1,7 @@
 -- `boolean64::table` picks for each pair of bits one of the four of the truth table.
 use borrow.Author.Needs.{needs}
 use Rattle.word64.specs.Width.{W}
-use Rattle.rules.proofs.Combine.{table-word}
+use Rattle.laws.proofs.words.Combine.{table-word}
 use Rattle.boolean64.proofs.table.Statement.{statement}
 use Rattle.boolean64.proofs.table.Tie as tie
 

@@ -1,7 +1,7 @@
 -- `boolean8::apply`: and, or and xor of words are those of the truth table.
 use borrow.Author.Needs.{needs}
 use Rattle.word8.specs.Width.{W}
-use Rattle.rules.proofs.Combine.{and-word, or-word, xor-word}
+use Rattle.laws.proofs.words.Combine.{and-word, or-word, xor-word}
 use Rattle.boolean8.proofs.apply.Statement.{statement}
 use Rattle.boolean8.proofs.apply.Tie as tie
 

@@ -10,12 +10,12 @@ use Rattle.word8.specs.Width.{W}
 use Rattle.rules.specs.declared.Verdict.the-variants.{Fine}
 use Rattle.rules.specs.Positions.{row, start}
 use Rattle.rules.specs.Refusals.{verdict, pairCases}
-use Rattle.rules.proofs.Combine.{until, until-in, until-out, combined-short}
-use Rattle.rules.proofs.Accepted.{Pair, fine-pair}
-use Rattle.rules.proofs.RowCalls.{start-in, boolean-refused, boolean-done}
+use Rattle.laws.proofs.words.Combine.{until, until-in, until-out, combined-short}
+use Rattle.rules.proofs.refusals.Accepted.{Pair, fine-pair}
+use Rattle.laws.proofs.rows.RowCalls.{start-in, boolean-refused, boolean-done}
 use Rattle.boolean8.proofs.boolean.Statement.{statement}
 use Rattle.boolean8.proofs.boolean.Tie as tie
-use Rattle.rules.proofs.OneAnswer.{judged}
+use Rattle.rules.proofs.refusals.OneAnswer.{judged}
 
 fine : (c : tie.After-enum-told) → (let a = c .before .before .before .before .before .args in verdict (pairCases W (length (now (a .words))) (a .span) (length (now (a .right))) (a .right-span)) ≡ Fine)
 fine c = sym (judged (c .before .before .check-pair .ensures)) ∙ c .enum-told .given .1

@@ -5,8 +5,8 @@ use lib.ListN.{getD}
 use borrow.Author.Needs.{needs}
 use denote.Ref.{now}
 use Rattle.word8.specs.Width.{W}
-use Rattle.rules.proofs.Funnel.{funneled}
-use Rattle.rules.proofs.Combine.{wordwise}
+use Rattle.laws.proofs.words.Funnel.{funneled}
+use Rattle.laws.proofs.words.Combine.{wordwise}
 use Rattle.boolean8.proofs.funnel_cases.Statement.{statement}
 use Rattle.boolean8.proofs.funnel_cases.Tie as tie
 

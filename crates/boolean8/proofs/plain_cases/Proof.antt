@@ -5,7 +5,7 @@ use lib.ListN.{getD}
 use borrow.Author.Needs.{needs}
 use denote.Ref.{now}
 use Rattle.word8.specs.Width.{W}
-use Rattle.rules.proofs.Combine.{wordwise}
+use Rattle.laws.proofs.words.Combine.{wordwise}
 use Rattle.boolean8.proofs.plain_cases.Statement.{statement}
 use Rattle.boolean8.proofs.plain_cases.Tie as tie
 

@@ -6,8 +6,8 @@ use lib.ListN.{length, getD, length-set}
 use borrow.Author.Count.{below-none}
 use denote.Ref.{now}
 use Rattle.word8.specs.Width.{W}
-use Rattle.rules.proofs.Filled.{filled-more, kept-more}
-use Rattle.rules.proofs.Combine.{wordwise}
+use Rattle.laws.proofs.rows.Filled.{filled-more, kept-more}
+use Rattle.laws.proofs.words.Combine.{wordwise}
 use Rattle.boolean8.proofs.plain_words.Statement.{statement}
 use Rattle.boolean8.proofs.plain_words.Tie as tie
 

@@ -8,10 +8,10 @@ use denote.Ref.{now}
 use Rattle.word8.specs.Width.{W}
 use Rattle.rules.specs.Positions.{row}
 use Rattle.rules.specs.Rows.{applied}
-use Rattle.rules.proofs.Funnel.{funneled}
-use Rattle.rules.proofs.WholeWords.{mid-length, part-plain, part-joined}
-use Rattle.rules.proofs.RowPieces.{none-put}
-use Rattle.rules.proofs.Combine.{words-combined, right-word}
+use Rattle.laws.proofs.words.Funnel.{funneled}
+use Rattle.laws.proofs.rows.Part.{mid-length, none-put}
+use Rattle.laws.proofs.words.Wholes.{part-plain, part-joined}
+use Rattle.laws.proofs.words.Combine.{words-combined, right-word}
 use Rattle.boolean8.proofs.whole_words.Statement.{statement}
 use Rattle.boolean8.proofs.whole_words.Tie as tie
 

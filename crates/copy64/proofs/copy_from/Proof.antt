@@ -8,11 +8,11 @@ use Rattle.word64.specs.Width.{W}
 use Rattle.rules.specs.declared.Verdict.the-variants.{Fine}
 use Rattle.rules.specs.Positions.{row}
 use Rattle.rules.specs.Refusals.{verdict, copyCases}
-use Rattle.rules.proofs.Accepted.{Copy, fine-copy}
-use Rattle.rules.proofs.RowCalls.{start-in, copy-refused, copy-done}
+use Rattle.rules.proofs.refusals.Accepted.{Copy, fine-copy}
+use Rattle.laws.proofs.rows.RowCalls.{start-in, copy-refused, copy-done}
 use Rattle.copy64.proofs.copy_from.Statement.{statement}
 use Rattle.copy64.proofs.copy_from.Tie as tie
-use Rattle.rules.proofs.OneAnswer.{judged}
+use Rattle.rules.proofs.refusals.OneAnswer.{judged}
 
 fine : (c : tie.After-enum-told) → (let a = c .before .before .before .before .before .args in verdict (copyCases W (length (now (a .words))) (a .span) (length (now (a .source))) (a .source-span)) ≡ Fine)
 fine c = sym (judged (c .before .before .check-copy .ensures)) ∙ c .enum-told .given .1

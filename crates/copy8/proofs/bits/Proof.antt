@@ -7,7 +7,7 @@ use denote.Ref.{now}
 use Rattle.word8.specs.Width.{W}
 use Rattle.rules.specs.Bits.{bitN}
 use Rattle.rules.specs.Positions.{row, position}
-use Rattle.rules.proofs.Splice.{splice-eq}
+use Rattle.rules.proofs.rows.Splice.{splice-eq}
 use Rattle.copy8.proofs.bits.Statement.{statement}
 use Rattle.copy8.proofs.bits.Tie as tie
 

@@ -5,7 +5,7 @@ use native.Mathlib.Nat.{add-assoc}
 use native.Mathlib.Omega.{arith}
 use lib.ListN.{getD}
 use denote.Ref.{now}
-use Rattle.rules.proofs.Agree.{Agree, agree-on, agree-off, tells-no, tells-zero, differs-on}
+use Rattle.laws.proofs.words.Agree.{Agree, agree-on, agree-off, tells-no, tells-zero, differs-on}
 use Rattle.equal64.proofs.equal_plain.Statement.{statement}
 use Rattle.equal64.proofs.equal_plain.Tie as tie
 

@@ -6,8 +6,8 @@ use lib.Dec.{lit<}
 use borrow.Author.Needs.{needs}
 use denote.Ref.{now}
 use Rattle.word64.specs.Width.{W}
-use Rattle.rules.proofs.WholeWords.{wordOn, word-plain, word-joined}
-use Rattle.rules.proofs.Agree.{tells-to, words-tell}
+use Rattle.laws.proofs.words.Wholes.{wordOn, word-plain, word-joined}
+use Rattle.laws.proofs.words.Agree.{tells-to, words-tell}
 use Rattle.equal64.proofs.equal_whole.Statement.{statement}
 use Rattle.equal64.proofs.equal_whole.Tie as tie
 

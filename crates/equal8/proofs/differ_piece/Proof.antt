@@ -4,7 +4,7 @@ use lib.Dec.{lit<}
 use borrow.Author.Needs.{needs}
 use denote.Ref.{now}
 use Rattle.word8.specs.Width.{W}
-use Rattle.rules.proofs.Agree.{piece-differs}
+use Rattle.laws.proofs.words.Agree.{piece-differs}
 use Rattle.equal8.proofs.differ_piece.Statement.{statement}
 use Rattle.equal8.proofs.differ_piece.Tie as tie
 

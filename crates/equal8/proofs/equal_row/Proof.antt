@@ -10,8 +10,8 @@ use borrow.Author.Tests.{not-true, not-false}
 use denote.Ref.{now}
 use Rattle.word8.specs.Width.{W}
 use Rattle.rules.specs.Positions.{row}
-use Rattle.rules.proofs.RowPieces.{last-fits}
-use Rattle.rules.proofs.Agree.{tells-same, tells-no, tells-zero, differs-on, agree-on, agree-off}
+use Rattle.laws.proofs.rows.Part.{last-fits}
+use Rattle.laws.proofs.words.Agree.{tells-same, tells-no, tells-zero, differs-on, agree-on, agree-off}
 use Rattle.equal8.proofs.equal_row.Statement.{statement}
 use Rattle.equal8.proofs.equal_row.Tie as tie
 

@@ -9,11 +9,11 @@ use Rattle.rules.specs.declared.Verdict.the-variants.{Fine}
 use Rattle.rules.specs.Positions.{start}
 use Rattle.rules.specs.Fields.{whole}
 use Rattle.rules.specs.Refusals.{verdict, storeCases}
-use Rattle.rules.proofs.Accepted.{Store, fine-store}
-use Rattle.rules.proofs.FieldCalls.{store-refused, store-done}
+use Rattle.rules.proofs.refusals.Accepted.{Store, fine-store}
+use Rattle.laws.proofs.fields.FieldCalls.{store-refused, store-done}
 use Rattle.field64.proofs.store.Statement.{statement}
 use Rattle.field64.proofs.store.Tie as tie
-use Rattle.rules.proofs.OneAnswer.{judged}
+use Rattle.rules.proofs.refusals.OneAnswer.{judged}
 
 fine : (c : tie.After-enum-told) → (let a = c .before .before .before .before .args in verdict (storeCases W (length (now (a .words))) (a .span) (a .k) (a .sign) (whole (a .value))) ≡ Fine)
 fine c = sym (judged (c .before .before .check-store .ensures)) ∙ c .enum-told .given .1

@@ -11,12 +11,12 @@ use Rattle.word8.specs.Width.{W}
 use Rattle.rules.specs.declared.Significance.the-variants.{Le}
 use Rattle.rules.specs.declared.Verdict.the-variants.{Fine}
 use Rattle.rules.specs.Refusals.{verdict, bitCases}
-use Rattle.rules.proofs.Accepted.{Bit, fine-bit}
+use Rattle.rules.proofs.refusals.Accepted.{Bit, fine-bit}
 use Rattle.rules.specs.Fields.{storeOf}
-use Rattle.rules.proofs.SingleBit.{write-refused, write-done, write-piece}
+use Rattle.laws.proofs.fields.SingleBit.{write-refused, write-done, write-piece}
 use Rattle.field8.proofs.write_bit.Statement.{statement}
 use Rattle.field8.proofs.write_bit.Tie as tie
-use Rattle.rules.proofs.OneAnswer.{judged}
+use Rattle.rules.proofs.refusals.OneAnswer.{judged}
 
 fine : (c : tie.After-enum-told) → (let a = c .before .before .before .before .args in verdict (bitCases W (length (now (a .words))) (a .span) (a .index)) ≡ Fine)
 fine c = sym (judged (c .before .before .check-bit .ensures)) ∙ c .enum-told .given .1

@@ -2,7 +2,7 @@
 use borrow.Author.Needs.{needs}
 use mathlib.Core.Path.{refl}
 use Rattle.word64.specs.Width.{W}
-use Rattle.rules.proofs.Reading.{read-bit-leaves, load-leaves, equal-leaves, find-first-leaves, find-last-leaves}
+use Rattle.laws.proofs.rows.Reading.{read-bit-leaves, load-leaves, equal-leaves, find-first-leaves, find-last-leaves}
 use Rattle.requests.proofs.Performed.{read, wrote}
 use Rattle.perform64.proofs.perform.Statement.{statement}
 use Rattle.perform64.proofs.perform.Tie as tie

@@ -3,11 +3,11 @@ use native.Mathlib.Omega.{arith}
 use borrow.Author.Needs.{needs}
 use mathlib.Core.Path.{sym, _∙_}
 use Rattle.word8.specs.Width.{W}
-use Rattle.rules.proofs.Tables.{fine-inside}
-use Rattle.rules.proofs.SearchAnswers.{last-refused, answers-last}
+use Rattle.rules.proofs.refusals.Tables.{fine-inside}
+use Rattle.rules.proofs.searches.SearchAnswers.{last-refused, answers-last}
 use Rattle.search8.proofs.last_zero.Statement.{statement}
 use Rattle.search8.proofs.last_zero.Tie as tie
-use Rattle.rules.proofs.OneAnswer.{judged}
+use Rattle.rules.proofs.refusals.OneAnswer.{judged}
 
 checked-requires : tie.Need-checked-requires
 checked-requires c κs = search needs

@@ -8,11 +8,11 @@ use Rattle.word64.specs.Width.{W}
 use Rattle.rules.specs.declared.Verdict.the-variants.{Fine}
 use Rattle.rules.specs.Positions.{row}
 use Rattle.rules.specs.Refusals.{verdict, copyCases}
-use Rattle.rules.proofs.Accepted.{Copy, fine-copy}
-use Rattle.rules.proofs.RowCalls.{start-in, swap-refused, swap-done}
+use Rattle.rules.proofs.refusals.Accepted.{Copy, fine-copy}
+use Rattle.laws.proofs.rows.RowCalls.{start-in, swap-refused, swap-done}
 use Rattle.swap64.proofs.swap.Statement.{statement}
 use Rattle.swap64.proofs.swap.Tie as tie
-use Rattle.rules.proofs.OneAnswer.{judged}
+use Rattle.rules.proofs.refusals.OneAnswer.{judged}
 
 fine : (c : tie.After-enum-told) → (let a = c .before .before .before .before .before .args in verdict (copyCases W (length (now (a .left))) (a .left-span) (length (now (a .right))) (a .right-span)) ≡ Fine)
 fine c = sym (judged (c .before .before .check-copy .ensures)) ∙ c .enum-told .given .1

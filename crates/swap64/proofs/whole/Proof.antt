@@ -7,9 +7,9 @@ use borrow.Author.Needs.{needs}
 use denote.Ref.{now}
 use Rattle.word64.specs.Width.{W}
 use Rattle.rules.specs.Positions.{row}
-use Rattle.rules.proofs.Row.{Words}
-use Rattle.rules.proofs.RowPieces.{none-put}
-use Rattle.rules.proofs.WholeWords.{mid-length, lent-row, part-plain}
+use Rattle.rules.proofs.rows.Row.{Words}
+use Rattle.laws.proofs.rows.Part.{none-put, mid-length}
+use Rattle.laws.proofs.words.Wholes.{lent-row, part-plain}
 use Rattle.swap64.proofs.whole.Statement.{statement}
 use Rattle.swap64.proofs.whole.Tie as tie
 

@@ -8,11 +8,11 @@ use Rattle.word64.specs.Width.{W}
 use Rattle.rules.specs.declared.Verdict.the-variants.{Fine}
 use Rattle.rules.specs.Positions.{row}
 use Rattle.rules.specs.Refusals.{verdict, withinCases}
-use Rattle.rules.proofs.Accepted.{Move, fine-move}
-use Rattle.rules.proofs.RowCalls.{start-in, within-refused, within-done}
+use Rattle.rules.proofs.refusals.Accepted.{Move, fine-move}
+use Rattle.laws.proofs.rows.RowCalls.{start-in, within-refused, within-done}
 use Rattle.within64.proofs.copy_within.Statement.{statement}
 use Rattle.within64.proofs.copy_within.Tie as tie
-use Rattle.rules.proofs.OneAnswer.{judged}
+use Rattle.rules.proofs.refusals.OneAnswer.{judged}
 
 fine : (c : tie.After-enum-told) → (let a = c .before .before .before .before .args in verdict (withinCases W (length (now (a .words))) (a .span) (a .start) (a .count) (a .destination)) ≡ Fine)
 fine c = sym (judged (c .before .before .check-copy-within .ensures)) ∙ c .enum-told .given .1

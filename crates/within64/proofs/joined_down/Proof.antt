@@ -7,9 +7,9 @@ use lib.Dec.{lit<}
 use denote.Ref.{now}
 use Rattle.word64.specs.Width.{W}
 use Rattle.rules.specs.Rows.{moved}
-use Rattle.rules.proofs.Moves.{from-funnel}
-use Rattle.rules.proofs.Scratch.{moved-none}
-use Rattle.rules.proofs.InPlace.{moved-at, word-down}
+use Rattle.laws.proofs.words.Moves.{from-funnel}
+use Rattle.laws.proofs.rows.Scratch.{moved-none}
+use Rattle.laws.proofs.rows.InPlace.{moved-at, word-down}
 use Rattle.within64.proofs.joined_down.Statement.{statement}
 use Rattle.within64.proofs.joined_down.Tie as tie
 

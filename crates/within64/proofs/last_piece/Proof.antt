@@ -9,8 +9,8 @@ use Rattle.word64.specs.Width.{W}
 use Rattle.rules.specs.Bits.{bitN}
 use Rattle.rules.specs.Positions.{row, position, spliced}
 use Rattle.rules.specs.Rows.{moved}
-use Rattle.rules.proofs.Splice.{splice-eq}
-use Rattle.rules.proofs.Scratch.{moved-none}
+use Rattle.rules.proofs.rows.Splice.{splice-eq}
+use Rattle.laws.proofs.rows.Scratch.{moved-none}
 use Rattle.within64.proofs.last_piece.Statement.{statement}
 use Rattle.within64.proofs.last_piece.Tie as tie
 

@@ -6,9 +6,9 @@ use lib.Dec.{lit<}
 use borrow.Author.Needs.{needs}
 use denote.Ref.{now}
 use Rattle.word64.specs.Width.{W}
-use Rattle.rules.proofs.RowPieces.{on-word}
-use Rattle.rules.proofs.Scratch.{step-down}
-use Rattle.rules.proofs.InPlace.{moved-at}
+use Rattle.laws.proofs.rows.Part.{on-word}
+use Rattle.laws.proofs.rows.Scratch.{step-down}
+use Rattle.laws.proofs.rows.InPlace.{moved-at}
 use Rattle.within64.proofs.move_down.Statement.{statement}
 use Rattle.within64.proofs.move_down.Tie as tie
 

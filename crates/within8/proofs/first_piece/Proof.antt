@@ -8,8 +8,8 @@ use Rattle.word8.specs.Width.{W}
 use Rattle.rules.specs.Bits.{bitN}
 use Rattle.rules.specs.Positions.{row, position}
 use Rattle.rules.specs.Rows.{moved}
-use Rattle.rules.proofs.Splice.{splice-eq}
-use Rattle.rules.proofs.Scratch.{moved-none}
+use Rattle.rules.proofs.rows.Splice.{splice-eq}
+use Rattle.laws.proofs.rows.Scratch.{moved-none}
 use Rattle.within8.proofs.first_piece.Statement.{statement}
 use Rattle.within8.proofs.first_piece.Tie as tie
 

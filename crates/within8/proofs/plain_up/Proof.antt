@@ -9,10 +9,10 @@ use denote.Ref.{now}
 use Rattle.word8.specs.Width.{W}
 use Rattle.rules.specs.declared.Order.{Order}
 use Rattle.rules.specs.Rows.{moved}
-use Rattle.rules.proofs.Row.{Words}
-use Rattle.rules.proofs.Moves.{from-word}
-use Rattle.rules.proofs.Scratch.{moved-none}
-use Rattle.rules.proofs.InPlace.{moved-at, word-up}
+use Rattle.rules.proofs.rows.Row.{Words}
+use Rattle.laws.proofs.words.Moves.{from-word}
+use Rattle.laws.proofs.rows.Scratch.{moved-none}
+use Rattle.laws.proofs.rows.InPlace.{moved-at, word-up}
 use Rattle.within8.proofs.plain_up.Statement.{statement}
 use Rattle.within8.proofs.plain_up.Tie as tie
 

@@ -8,7 +8,7 @@ use borrow.Author.Needs.{needs}
 use denote.Ref.{now}
 use Rattle.word64.specs.Width.{W}
 use Rattle.rules.specs.Positions.{mask}
-use Rattle.rules.proofs.Merged.{put-piece}
+use Rattle.laws.proofs.words.Merged.{put-piece}
 use Rattle.word64.proofs.put.Statement.{statement}
 use Rattle.word64.proofs.put.Tie as tie
 

@@ -2,7 +2,7 @@
 use native.Mathlib.Omega.{arith}
 use borrow.Author.Needs.{needs}
 use Rattle.word8.specs.Width.{W}
-use Rattle.rules.proofs.Moves.{joined-lsb0, joined-msb0}
+use Rattle.laws.proofs.words.Moves.{joined-lsb0, joined-msb0}
 use Rattle.word8.proofs.joined.Statement.{statement}
 use Rattle.word8.proofs.joined.Tie as tie
 

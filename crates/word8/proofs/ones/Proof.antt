@@ -2,7 +2,7 @@
 use borrow.Author.Needs.{needs}
 use native.Mathlib.Omega.{arith}
 use Rattle.word8.specs.Width.{W}
-use Rattle.rules.proofs.MaskBits.{ones-moved}
+use Rattle.rules.proofs.bits.Masks.{ones-moved}
 use Rattle.word8.proofs.ones.Statement.{statement}
 use Rattle.word8.proofs.ones.Tie as tie
 

@@ -1,7 +1,7 @@
 -- `word8::up` moves a word up along its indexes: to the left under Lsb0, to the right under Msb0.
 use borrow.Author.Needs.{needs}
 use Rattle.word8.specs.Width.{W}
-use Rattle.rules.proofs.Moves.{up-lsb0, up-msb0}
+use Rattle.laws.proofs.words.Moves.{up-lsb0, up-msb0}
 use Rattle.word8.proofs.up.Statement.{statement}
 use Rattle.word8.proofs.up.Tie as tie
 

@@ -10,8 +10,8 @@ use Rattle.rules.specs.declared.Order.{Order}
 use Rattle.rules.specs.declared.Order.the-variants.{Lsb0, Msb0}
 use Rattle.rules.specs.Positions.{row, spliced}
 use Rattle.rules.specs.Rows.{applied}
-use Rattle.rules.proofs.RowPieces.{none-put}
-use Rattle.rules.proofs.Combine.{piece-carried}
+use Rattle.laws.proofs.rows.Part.{none-put}
+use Rattle.laws.proofs.words.Combine.{piece-carried}
 use Rattle.boolean32.proofs.last_piece.Statement.{statement}
 use Rattle.boolean32.proofs.last_piece.Tie as tie
 

@@ -8,9 +8,9 @@ use Rattle.word32.specs.Width.{W}
 use Rattle.rules.specs.Bits.{bitN}
 use Rattle.rules.specs.Positions.{row, position}
 use Rattle.rules.specs.Rows.{applied}
-use Rattle.rules.proofs.Bit.{bit-of-zero}
-use Rattle.rules.proofs.Splice.{splice-eq}
-use Rattle.rules.proofs.RowPieces.{none-put}
+use Rattle.rules.proofs.bits.Bit.{bit-of-zero}
+use Rattle.rules.proofs.rows.Splice.{splice-eq}
+use Rattle.laws.proofs.rows.Part.{none-put}
 use Rattle.boolean32.proofs.none_piece.Statement.{statement}
 use Rattle.boolean32.proofs.none_piece.Tie as tie
 

@@ -8,8 +8,8 @@ use denote.Ref.{now}
 use Rattle.word32.specs.Width.{W}
 use Rattle.rules.specs.Positions.{row}
 use Rattle.rules.specs.Rows.{applied}
-use Rattle.rules.proofs.RowPieces.{none-put, last-fits}
-use Rattle.rules.proofs.Combine.{combined-on}
+use Rattle.laws.proofs.rows.Part.{none-put, last-fits}
+use Rattle.laws.proofs.words.Combine.{combined-on}
 use Rattle.boolean32.proofs.rest.Statement.{statement}
 use Rattle.boolean32.proofs.rest.Tie as tie
 

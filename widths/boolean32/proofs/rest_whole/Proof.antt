@@ -7,10 +7,9 @@ use denote.Ref.{now}
 use Rattle.word32.specs.Width.{W}
 use Rattle.rules.specs.Positions.{row}
 use Rattle.rules.specs.Rows.{applied}
-use Rattle.rules.proofs.Bit.{bit-of-zero}
-use Rattle.rules.proofs.WholeWords.{mid-length}
-use Rattle.rules.proofs.RowPieces.{none-put}
-use Rattle.rules.proofs.Combine.{words-combined}
+use Rattle.rules.proofs.bits.Bit.{bit-of-zero}
+use Rattle.laws.proofs.rows.Part.{mid-length, none-put}
+use Rattle.laws.proofs.words.Combine.{words-combined}
 use Rattle.boolean32.proofs.rest_whole.Statement.{statement}
 use Rattle.boolean32.proofs.rest_whole.Tie as tie
 

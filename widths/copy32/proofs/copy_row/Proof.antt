@@ -8,7 +8,7 @@ use borrow.Author.Needs.{needs}
 use denote.Ref.{now}
 use Rattle.word32.specs.Width.{W}
 use Rattle.rules.specs.Positions.{row}
-use Rattle.rules.proofs.RowPieces.{on-word, grown}
+use Rattle.laws.proofs.rows.Part.{on-word, grown}
 use Rattle.copy32.proofs.copy_row.Statement.{statement}
 use Rattle.copy32.proofs.copy_row.Tie as tie
 

@@ -7,7 +7,7 @@ use denote.Ref.{now}
 use Rattle.word32.specs.Width.{W}
 use Rattle.rules.specs.declared.Order.{Order}
 use Rattle.rules.specs.Positions.{row, spliced}
-use Rattle.rules.proofs.RowPieces.{none-put}
+use Rattle.laws.proofs.rows.Part.{none-put}
 use Rattle.copy32.proofs.first_piece.Statement.{statement}
 use Rattle.copy32.proofs.first_piece.Tie as tie
 

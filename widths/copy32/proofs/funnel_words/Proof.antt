@@ -6,8 +6,8 @@ use lib.ListN.{length, getD, length-set}
 use borrow.Author.Count.{below-none}
 use denote.Ref.{now}
 use Rattle.word32.specs.Width.{W}
-use Rattle.rules.proofs.Funnel.{funneled}
-use Rattle.rules.proofs.Filled.{filled-more}
+use Rattle.laws.proofs.words.Funnel.{funneled}
+use Rattle.laws.proofs.rows.Filled.{filled-more}
 use Rattle.copy32.proofs.funnel_words.Statement.{statement}
 use Rattle.copy32.proofs.funnel_words.Tie as tie
 

@@ -7,8 +7,8 @@ use borrow.Author.Needs.{needs}
 use denote.Ref.{now}
 use Rattle.word32.specs.Width.{W}
 use Rattle.rules.specs.Positions.{row}
-use Rattle.rules.proofs.WholeWords.{mid-length, lent-row, part-plain, part-joined}
-use Rattle.rules.proofs.RowPieces.{none-put}
+use Rattle.laws.proofs.rows.Part.{mid-length, none-put}
+use Rattle.laws.proofs.words.Wholes.{lent-row, part-plain, part-joined}
 use Rattle.copy32.proofs.whole.Statement.{statement}
 use Rattle.copy32.proofs.whole.Tie as tie
 

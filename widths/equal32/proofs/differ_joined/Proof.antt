@@ -5,8 +5,8 @@ use native.Mathlib.Omega.{arith}
 use lib.ListN.{getD}
 use denote.Ref.{now}
 use Rattle.word32.specs.Width.{W}
-use Rattle.rules.proofs.Funnel.{funneled}
-use Rattle.rules.proofs.Agree.{Differs, differs-none, differs-more}
+use Rattle.laws.proofs.words.Funnel.{funneled}
+use Rattle.laws.proofs.words.Agree.{Differs, differs-none, differs-more}
 use Rattle.equal32.proofs.differ_joined.Statement.{statement}
 use Rattle.equal32.proofs.differ_joined.Tie as tie
 

@@ -9,11 +9,11 @@ use Rattle.word32.specs.Width.{W}
 use Rattle.rules.specs.declared.Verdict.the-variants.{Fine}
 use Rattle.rules.specs.Positions.{row}
 use Rattle.rules.specs.Refusals.{verdict, pairCases}
-use Rattle.rules.proofs.Accepted.{Pair, fine-pair}
-use Rattle.rules.proofs.RowCalls.{start-in, equal-refused, equal-lengths, equal-bits}
+use Rattle.rules.proofs.refusals.Accepted.{Pair, fine-pair}
+use Rattle.laws.proofs.rows.RowCalls.{start-in, equal-refused, equal-lengths, equal-bits}
 use Rattle.equal32.proofs.equal.Statement.{statement}
 use Rattle.equal32.proofs.equal.Tie as tie
-use Rattle.rules.proofs.OneAnswer.{judged}
+use Rattle.rules.proofs.refusals.OneAnswer.{judged}
 
 fine : (c : tie.After-enum-told) → (let a = c .before .before .before .before .before .args in verdict (pairCases W (length (now (a .left))) (a .left-span) (length (now (a .right))) (a .right-span)) ≡ Fine)
 fine c = sym (judged (c .before .before .check-pair .ensures)) ∙ c .enum-told .given .1

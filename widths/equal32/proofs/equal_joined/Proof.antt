@@ -6,8 +6,8 @@ use native.Mathlib.Omega.{arith}
 use lib.ListN.{getD}
 use denote.Ref.{now}
 use Rattle.word32.specs.Width.{W}
-use Rattle.rules.proofs.Funnel.{funneled}
-use Rattle.rules.proofs.Agree.{Agree, agree-on, agree-off, tells-no, tells-zero, differs-on}
+use Rattle.laws.proofs.words.Funnel.{funneled}
+use Rattle.laws.proofs.words.Agree.{Agree, agree-on, agree-off, tells-no, tells-zero, differs-on}
 use Rattle.equal32.proofs.equal_joined.Statement.{statement}
 use Rattle.equal32.proofs.equal_joined.Tie as tie
 

@@ -9,11 +9,11 @@ use Rattle.word32.specs.Width.{W}
 use Rattle.rules.specs.declared.Verdict.the-variants.{Fine}
 use Rattle.rules.specs.Positions.{start}
 use Rattle.rules.specs.Refusals.{verdict, loadCases}
-use Rattle.rules.proofs.Accepted.{Load, fine-load}
-use Rattle.rules.proofs.FieldCalls.{load-refused, load-done}
+use Rattle.rules.proofs.refusals.Accepted.{Load, fine-load}
+use Rattle.laws.proofs.fields.FieldCalls.{load-refused, load-done}
 use Rattle.field32.proofs.load.Statement.{statement}
 use Rattle.field32.proofs.load.Tie as tie
-use Rattle.rules.proofs.OneAnswer.{judged}
+use Rattle.rules.proofs.refusals.OneAnswer.{judged}
 
 fine : (c : tie.After-enum-told) → (let a = c .before .before .before .before .args in verdict (loadCases W (length (now (a .words))) (a .span) (a .k)) ≡ Fine)
 fine c = sym (judged (c .before .before .check-load .ensures)) ∙ c .enum-told .given .1

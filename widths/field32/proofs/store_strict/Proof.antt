@@ -9,11 +9,11 @@ use Rattle.rules.specs.declared.Verdict.the-variants.{Fine}
 use Rattle.rules.specs.Positions.{start}
 use Rattle.rules.specs.Fields.{whole}
 use Rattle.rules.specs.Refusals.{verdict, storeStrictCases}
-use Rattle.rules.proofs.Accepted.{Strict, fine-strict}
-use Rattle.rules.proofs.FieldCalls.{strict-refused, strict-done}
+use Rattle.rules.proofs.refusals.Accepted.{Strict, fine-strict}
+use Rattle.laws.proofs.fields.FieldCalls.{strict-refused, strict-done}
 use Rattle.field32.proofs.store_strict.Statement.{statement}
 use Rattle.field32.proofs.store_strict.Tie as tie
-use Rattle.rules.proofs.OneAnswer.{judged}
+use Rattle.rules.proofs.refusals.OneAnswer.{judged}
 
 fine : (c : tie.After-enum-told) → (let a = c .before .before .before .before .args in verdict (storeStrictCases W (length (now (a .words))) (a .span) (a .k) (a .sign) (whole (a .value))) ≡ Fine)
 fine c = sym (judged (c .before .before .check-store-strict .ensures)) ∙ c .enum-told .given .1

@@ -2,7 +2,7 @@
 use borrow.Author.Needs.{needs}
 use mathlib.Core.Path.{_∙_}
 use Rattle.word32.specs.Width.{W}
-use Rattle.rules.proofs.Reading.{equal-here, equal-there, equal-apart}
+use Rattle.laws.proofs.rows.Reading.{equal-here, equal-there, equal-apart}
 use Rattle.perform32.proofs.equal.Statement.{statement}
 use Rattle.perform32.proofs.equal.Tie as tie
 

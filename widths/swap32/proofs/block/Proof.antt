@@ -5,7 +5,7 @@ use lib.Dec.{lit<}
 use borrow.Author.Needs.{needs}
 use denote.Ref.{now}
 use Rattle.word32.specs.Width.{W}
-use Rattle.rules.proofs.Scratch.{from-scratch}
+use Rattle.laws.proofs.rows.Scratch.{from-scratch}
 use Rattle.swap32.proofs.block.Statement.{statement}
 use Rattle.swap32.proofs.block.Tie as tie
 

@@ -8,8 +8,8 @@ use borrow.Author.Needs.{needs}
 use denote.Ref.{now}
 use Rattle.word32.specs.Width.{W}
 use Rattle.rules.specs.Positions.{row, spliced}
-use Rattle.rules.proofs.RowPieces.{none-put}
-use Rattle.rules.proofs.Scratch.{step-swap}
+use Rattle.laws.proofs.rows.Part.{none-put}
+use Rattle.laws.proofs.rows.Scratch.{step-swap}
 use Rattle.swap32.proofs.blocks.Statement.{statement}
 use Rattle.swap32.proofs.blocks.Tie as tie
 

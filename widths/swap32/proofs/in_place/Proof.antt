@@ -7,8 +7,8 @@ use borrow.Author.Needs.{needs}
 use denote.Ref.{now}
 use Rattle.word32.specs.Width.{W}
 use Rattle.rules.specs.Positions.{row}
-use Rattle.rules.proofs.RowPieces.{last-fits}
-use Rattle.rules.proofs.Scratch.{step-swap}
+use Rattle.laws.proofs.rows.Part.{last-fits}
+use Rattle.laws.proofs.rows.Scratch.{step-swap}
 use Rattle.swap32.proofs.in_place.Statement.{statement}
 use Rattle.swap32.proofs.in_place.Tie as tie
 

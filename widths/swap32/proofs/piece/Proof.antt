@@ -6,8 +6,8 @@ use borrow.Author.Needs.{needs}
 use denote.Ref.{now}
 use Rattle.word32.specs.Width.{W}
 use Rattle.rules.specs.Positions.{row}
-use Rattle.rules.proofs.RowPieces.{none-put}
-use Rattle.rules.proofs.InPlace.{near-put}
+use Rattle.laws.proofs.rows.Part.{none-put}
+use Rattle.laws.proofs.rows.InPlace.{near-put}
 use Rattle.swap32.proofs.piece.Statement.{statement}
 use Rattle.swap32.proofs.piece.Tie as tie
 

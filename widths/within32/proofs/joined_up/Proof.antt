@@ -8,9 +8,9 @@ use lib.Dec.{lit<}
 use denote.Ref.{now}
 use Rattle.word32.specs.Width.{W}
 use Rattle.rules.specs.Rows.{moved}
-use Rattle.rules.proofs.Moves.{from-funnel}
-use Rattle.rules.proofs.Scratch.{moved-none}
-use Rattle.rules.proofs.InPlace.{moved-at, word-up}
+use Rattle.laws.proofs.words.Moves.{from-funnel}
+use Rattle.laws.proofs.rows.Scratch.{moved-none}
+use Rattle.laws.proofs.rows.InPlace.{moved-at, word-up}
 use Rattle.within32.proofs.joined_up.Statement.{statement}
 use Rattle.within32.proofs.joined_up.Tie as tie
 

@@ -6,8 +6,8 @@ use lib.Dec.{lit<}
 use borrow.Author.Needs.{needs}
 use denote.Ref.{now}
 use Rattle.word32.specs.Width.{W}
-use Rattle.rules.proofs.Scratch.{moved-none}
-use Rattle.rules.proofs.InPlace.{moved-at}
+use Rattle.laws.proofs.rows.Scratch.{moved-none}
+use Rattle.laws.proofs.rows.InPlace.{moved-at}
 use Rattle.within32.proofs.whole_down.Statement.{statement}
 use Rattle.within32.proofs.whole_down.Tie as tie
 

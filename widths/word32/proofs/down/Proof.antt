@@ -1,7 +1,7 @@
 -- `word32::down` moves a word down along its indexes: to the right under Lsb0, to the left under Msb0.
 use borrow.Author.Needs.{needs}
 use Rattle.word32.specs.Width.{W}
-use Rattle.rules.proofs.Moves.{down-lsb0, down-msb0}
+use Rattle.laws.proofs.words.Moves.{down-lsb0, down-msb0}
 use Rattle.word32.proofs.down.Statement.{statement}
 use Rattle.word32.proofs.down.Tie as tie
 

@@ -6,7 +6,7 @@ use lib.Dec.{lit<}
 use borrow.Author.Needs.{needs}
 use denote.Ref.{now}
 use Rattle.word32.specs.Width.{W}
-use Rattle.rules.proofs.Moves.{fetch-up, fetch-same, fetch-down, fetch-over}
+use Rattle.laws.proofs.words.Moves.{fetch-up, fetch-same, fetch-down, fetch-over}
 use Rattle.word32.proofs.fetch.Statement.{statement}
 use Rattle.word32.proofs.fetch.Tie as tie
 

@@ -2,7 +2,7 @@
 use borrow.Author.Needs.{needs}
 use native.Mathlib.Omega.{arith}
 use Rattle.word32.specs.Width.{W}
-use Rattle.rules.proofs.MaskBits.{run-lsb0, run-msb0}
+use Rattle.rules.proofs.bits.Masks.{run-lsb0, run-msb0}
 use Rattle.word32.proofs.mask.Statement.{statement}
 use Rattle.word32.proofs.mask.Tie as tie
 

@@ -3,8 +3,8 @@ use borrow.Author.Needs.{needs}
 use mathlib.Core.Path.{_≡_, sym, _∙_}
 use lib.Dec.{lit<}
 use denote.Ref.{now}
-use Rattle.rules.proofs.Chunk.{own}
-use Rattle.rules.proofs.Wholes.{load-word}
+use Rattle.laws.proofs.fields.Chunk.{own}
+use Rattle.laws.proofs.words.Wholes.{load-word}
 use Rattle.field64.proofs.chunks.chunk_at.Statement.{statement}
 use Rattle.field64.proofs.chunks.chunk_at.Tie as tie
 

@@ -4,8 +4,8 @@ use native.Mathlib.Omega.{arith}
 use mathlib.Core.Path.{_≡_, _∙_}
 use lib.Dec.{lit<}
 use denote.Ref.{now}
-use Rattle.rules.proofs.Chunk.{own}
-use Rattle.rules.proofs.Wholes.{store-word}
+use Rattle.laws.proofs.fields.Chunk.{own}
+use Rattle.laws.proofs.words.Wholes.{store-word}
 use Rattle.field64.proofs.chunks.put_chunk.Statement.{statement}
 use Rattle.field64.proofs.chunks.put_chunk.Tie as tie
 

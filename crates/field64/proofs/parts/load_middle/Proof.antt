@@ -9,7 +9,7 @@ use lib.Seq.{length-take-le}
 use denote.Ref.{now}
 use Rattle.word64.specs.Width.{W}
 use Rattle.rules.specs.Fields.{loadOf}
-use Rattle.rules.proofs.Wholes.{load-part}
+use Rattle.laws.proofs.words.Wholes.{load-part}
 use Rattle.field64.proofs.parts.load_middle.Statement.{statement}
 use Rattle.field64.proofs.parts.load_middle.Tie as tie
 

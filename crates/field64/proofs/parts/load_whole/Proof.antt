@@ -8,9 +8,9 @@ use Rattle.word64.specs.Width.{W}
 use Rattle.rules.specs.declared.Order.{Order}
 use Rattle.rules.specs.declared.Order.the-variants.{Lsb0}
 use Rattle.rules.specs.Fields.{loadOf}
-use Rattle.rules.proofs.Field.{load-lt}
-use Rattle.rules.proofs.Cuts.{joined}
-use Rattle.rules.proofs.Wholes.{load-none, load-more}
+use Rattle.rules.proofs.fields.Field.{load-lt}
+use Rattle.laws.proofs.fields.Cuts.{joined}
+use Rattle.laws.proofs.words.Wholes.{load-none, load-more}
 use Rattle.field64.proofs.parts.load_whole.Statement.{statement}
 use Rattle.field64.proofs.parts.load_whole.Tie as tie
 

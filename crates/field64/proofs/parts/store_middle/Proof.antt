@@ -5,7 +5,7 @@ use Prim.Native.Nat.{_+_, _-_}
 use lib.Dec.{lit<}
 use denote.Ref.{now}
 use Rattle.word64.specs.Width.{W}
-use Rattle.rules.proofs.Wholes.{store-part}
+use Rattle.laws.proofs.words.Wholes.{store-part}
 use Rattle.field64.proofs.parts.store_middle.Statement.{statement}
 use Rattle.field64.proofs.parts.store_middle.Tie as tie
 

@@ -7,8 +7,7 @@ use lib.Dec.{lit<}
 use denote.Ref.{now}
 use Rattle.word8.specs.Width.{W}
 use Rattle.rules.specs.Fields.{loadOf}
-use Rattle.rules.proofs.Cuts.{joined, load-fits}
-use Rattle.rules.proofs.Pieces.{load-rest}
+use Rattle.laws.proofs.fields.Cuts.{joined, load-fits, load-rest}
 use Rattle.field8.proofs.bits.load_bits.Statement.{statement}
 use Rattle.field8.proofs.bits.load_bits.Tie as tie
 

@@ -7,8 +7,7 @@ use lib.Dec.{lit<}
 use denote.Ref.{now}
 use Rattle.word8.specs.Width.{W}
 use Rattle.rules.specs.Fields.{loadOf}
-use Rattle.rules.proofs.Cuts.{load-fits}
-use Rattle.rules.proofs.Pieces.{load-last}
+use Rattle.laws.proofs.fields.Cuts.{load-fits, load-last}
 use Rattle.field8.proofs.bits.load_rest.Statement.{statement}
 use Rattle.field8.proofs.bits.load_rest.Tie as tie
 

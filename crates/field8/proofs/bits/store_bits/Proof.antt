@@ -8,8 +8,7 @@ use lib.ListN.{length}
 use denote.Ref.{now}
 use Rattle.word8.specs.Width.{W}
 use Rattle.rules.specs.Fields.{storeOf}
-use Rattle.rules.proofs.Cuts.{firstOf, length-store}
-use Rattle.rules.proofs.Pieces.{store-rest}
+use Rattle.laws.proofs.fields.Cuts.{firstOf, length-store, store-rest}
 use Rattle.field8.proofs.bits.store_bits.Statement.{statement}
 use Rattle.field8.proofs.bits.store_bits.Tie as tie
 

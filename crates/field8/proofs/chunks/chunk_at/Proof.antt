@@ -7,9 +7,9 @@ use denote.Ref.{now}
 use Rattle.rules.specs.declared.Order.the-variants.{Lsb0, Msb0}
 use Rattle.rules.specs.declared.Significance.the-variants.{Be}
 use Rattle.rules.specs.Fields.{loadOf}
-use Rattle.rules.proofs.Chunk.{own}
-use Rattle.rules.proofs.Cuts.{load-fits}
-use Rattle.rules.proofs.Turned.{turned, turned-load}
+use Rattle.laws.proofs.fields.Chunk.{own}
+use Rattle.laws.proofs.fields.Cuts.{load-fits}
+use Rattle.laws.proofs.fields.Turned.{turned, turned-load}
 use Rattle.field8.proofs.chunks.chunk_at.Statement.{statement}
 use Rattle.field8.proofs.chunks.chunk_at.Tie as tie
 

@@ -8,8 +8,7 @@ use Rattle.rules.specs.declared.Order.{Order}
 use Rattle.rules.specs.declared.Order.the-variants.{Lsb0}
 use Rattle.rules.specs.declared.Significance.the-variants.{Le}
 use Rattle.rules.specs.Fields.{loadOf}
-use Rattle.rules.proofs.Cuts.{load-fits}
-use Rattle.rules.proofs.Pieces.{load-next}
+use Rattle.laws.proofs.fields.Cuts.{load-fits, load-next}
 use Rattle.field8.proofs.chunks.four_at.Statement.{statement}
 use Rattle.field8.proofs.chunks.four_at.Tie as tie
 

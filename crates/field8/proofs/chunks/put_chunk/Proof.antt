@@ -1,7 +1,7 @@
 -- `put_chunk`: a chunk is eight words, of the significance of the arm. Assumes nothing.
 use borrow.Author.Needs.{needs}
 use Rattle.rules.specs.declared.Order.the-variants.{Lsb0, Msb0}
-use Rattle.rules.proofs.Chunk.{own}
+use Rattle.laws.proofs.fields.Chunk.{own}
 use Rattle.field8.proofs.chunks.put_chunk.Statement.{statement}
 use Rattle.field8.proofs.chunks.put_chunk.Tie as tie
 

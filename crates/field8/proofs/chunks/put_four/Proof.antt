@@ -5,7 +5,7 @@ use Prim.Native.Nat.{_+_, _*_}
 use lib.Dec.{lit<}
 use denote.Ref.{now}
 use Rattle.rules.specs.Fields.{storeOf}
-use Rattle.rules.proofs.Pieces.{store-next}
+use Rattle.laws.proofs.fields.Cuts.{store-next}
 use Rattle.field8.proofs.chunks.put_four.Statement.{statement}
 use Rattle.field8.proofs.chunks.put_four.Tie as tie
 

@@ -7,8 +7,8 @@ use lib.Dec.{lit<}
 use lib.ListN.{length, length-set}
 use denote.Ref.{now}
 use Rattle.rules.specs.Fields.{storeOf}
-use Rattle.rules.proofs.Wholes.{store-word}
-use Rattle.rules.proofs.Pieces.{store-next}
+use Rattle.laws.proofs.words.Wholes.{store-word}
+use Rattle.laws.proofs.fields.Cuts.{store-next}
 use Rattle.field8.proofs.chunks.put_two.Statement.{statement}
 use Rattle.field8.proofs.chunks.put_two.Tie as tie
 

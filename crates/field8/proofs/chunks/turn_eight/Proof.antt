@@ -2,7 +2,7 @@
 use borrow.Author.Needs.{needs}
 use mathlib.Core.Path.{_≡_, _∙_}
 use lib.Bits.{mask-lt}
-use Rattle.rules.proofs.Turned.{turned, turned-halves}
+use Rattle.laws.proofs.fields.Turned.{turned, turned-halves}
 use Rattle.field8.proofs.chunks.turn_eight.Statement.{statement}
 use Rattle.field8.proofs.chunks.turn_eight.Tie as tie
 

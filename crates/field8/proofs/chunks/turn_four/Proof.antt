@@ -3,8 +3,8 @@ use borrow.Author.Needs.{needs}
 use mathlib.Core.Path.{_≡_, _∙_}
 use native.Mathlib.Omega.{arith}
 use lib.Bits.{mask-lt}
-use Rattle.rules.proofs.Cuts.{joined}
-use Rattle.rules.proofs.Turned.{turned, turned-halves}
+use Rattle.laws.proofs.fields.Cuts.{joined}
+use Rattle.laws.proofs.fields.Turned.{turned, turned-halves}
 use Rattle.field8.proofs.chunks.turn_four.Statement.{statement}
 use Rattle.field8.proofs.chunks.turn_four.Tie as tie
 

@@ -2,8 +2,8 @@
 use mathlib.Core.Path.{refl, _∙_}
 use native.Mathlib.Omega.{arith}
 use lib.Bits.{mask-lt}
-use Rattle.rules.proofs.Cuts.{joined}
-use Rattle.rules.proofs.Turned.{turned, turned-halves}
+use Rattle.laws.proofs.fields.Cuts.{joined}
+use Rattle.laws.proofs.fields.Turned.{turned, turned-halves}
 use Rattle.field8.proofs.chunks.turn_two.Statement.{statement}
 use Rattle.field8.proofs.chunks.turn_two.Tie as tie
 

@@ -4,7 +4,7 @@ use mathlib.Core.Bool.{false≢true}
 use Prim.Native.Nat.{_/_, _≤_}
 use borrow.Author.Tests.{leb-true}
 use Rattle.word8.specs.Width.{W}
-use Rattle.rules.proofs.Chunks.{chunk}
+use Rattle.laws.proofs.fields.Chunk.{chunk}
 use Rattle.field8.proofs.near.pays.Statement.{statement}
 use Rattle.field8.proofs.near.pays.Tie as tie
 

@@ -9,9 +9,8 @@ use denote.Ref.{now}
 use Rattle.word8.specs.Width.{W}
 use Rattle.rules.specs.declared.Significance.{Significance}
 use Rattle.rules.specs.Fields.{storeOf}
-use Rattle.rules.proofs.Chunk.{own}
-use Rattle.rules.proofs.Cuts.{firstOf, restOf, first-all, length-store}
-use Rattle.rules.proofs.Chunks.{chunk, chunk-stored, chunk-rest}
+use Rattle.laws.proofs.fields.Chunk.{own, chunk, chunk-stored, chunk-rest}
+use Rattle.laws.proofs.fields.Cuts.{firstOf, restOf, first-all, length-store}
 use Rattle.field8.proofs.near.store_near.Statement.{statement}
 use Rattle.field8.proofs.near.store_near.Tie as tie
 

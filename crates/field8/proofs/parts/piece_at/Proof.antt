@@ -6,7 +6,7 @@ use Prim.Native.Nat.{ℕ}
 use lib.Dec.{lit<}
 use denote.Ref.{now}
 use Rattle.word8.specs.Width.{W}
-use Rattle.rules.proofs.Cuts.{pieceOf, load-piece}
+use Rattle.laws.proofs.fields.Cuts.{pieceOf, load-piece}
 use Rattle.field8.proofs.parts.piece_at.Statement.{statement}
 use Rattle.field8.proofs.parts.piece_at.Tie as tie
 

@@ -8,8 +8,8 @@ use lib.Dec.{lit<}
 use lib.ListN.{set}
 use denote.Ref.{now}
 use Rattle.word8.specs.Width.{W}
-use Rattle.rules.proofs.Field.{lowest}
-use Rattle.rules.proofs.Chunk.{masked, store-one}
+use Rattle.rules.proofs.fields.Field.{lowest}
+use Rattle.laws.proofs.fields.Chunk.{masked, store-one}
 use Rattle.field8.proofs.parts.put_piece.Statement.{statement}
 use Rattle.field8.proofs.parts.put_piece.Tie as tie
 

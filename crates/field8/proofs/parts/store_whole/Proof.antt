@@ -7,8 +7,8 @@ use lib.ListN.{length, set, length-set}
 use Rattle.word8.specs.Width.{W}
 use Rattle.rules.specs.declared.Order.{Order}
 use Rattle.rules.specs.Fields.{storeOf}
-use Rattle.rules.proofs.Cuts.{firstOf, restOf, first-all, store-none}
-use Rattle.rules.proofs.Wholes.{store-more}
+use Rattle.laws.proofs.fields.Cuts.{firstOf, restOf, first-all, store-none}
+use Rattle.laws.proofs.words.Wholes.{store-more}
 use Rattle.field8.proofs.parts.store_whole.Statement.{statement}
 use Rattle.field8.proofs.parts.store_whole.Tie as tie
 

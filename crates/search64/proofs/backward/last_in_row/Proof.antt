@@ -3,7 +3,7 @@ use borrow.Author.Needs.{needs}
 use native.Mathlib.Omega.{arith}
 use Prim.Native.Nat.{_+_, _-_, _*_, _/_, _%_}
 use Rattle.word64.specs.Width.{W}
-use Rattle.rules.proofs.RowSearch.{last-sooner, last-at-most, last-further}
+use Rattle.laws.proofs.searches.RowSearch.{last-sooner, last-at-most, last-further}
 use Rattle.search64.proofs.backward.last_in_row.Statement.{statement}
 use Rattle.search64.proofs.backward.last_in_row.Tie as tie
 

@@ -3,7 +3,7 @@ use borrow.Author.Needs.{needs}
 use native.Mathlib.Omega.{arith}
 use Prim.Native.Nat.{_+_, _-_, _*_}
 use Rattle.word64.specs.Width.{W}
-use Rattle.rules.proofs.RowSearch.{first-whole, first-sooner, first-at-most, first-further}
+use Rattle.laws.proofs.searches.RowSearch.{first-whole, first-sooner, first-at-most, first-further}
 use Rattle.search64.proofs.forward.first_in_row.Statement.{statement}
 use Rattle.search64.proofs.forward.first_in_row.Tie as tie
 

@@ -3,7 +3,7 @@ use borrow.Author.Needs.{needs}
 use mathlib.Core.Path.{_∙_}
 use lib.ListN.{getD}
 use Rattle.word64.specs.Width.{W}
-use Rattle.rules.proofs.WordSearch.{masked-by}
+use Rattle.laws.proofs.searches.WordSearch.{masked-by}
 use Rattle.search64.proofs.leaves.sought_in.Statement.{statement}
 use Rattle.search64.proofs.leaves.sought_in.Tie as tie
 

@@ -5,7 +5,7 @@ use mathlib.Core.Path.{_≡_}
 use Prim.Native.Nat.{ℕ, min, _+_, _-_, _*_, _≤_, _<_}
 use lib.Dec.{lit<}
 use Rattle.word8.specs.Width.{W}
-use Rattle.rules.proofs.RowSearch.{last-at-most, last-frame}
+use Rattle.laws.proofs.searches.RowSearch.{last-at-most, last-frame}
 use Rattle.search8.proofs.backward.last_further.Statement.{statement}
 use Rattle.search8.proofs.backward.last_further.Tie as tie
 

@@ -4,7 +4,7 @@ use native.Mathlib.Omega.{arith}
 use Prim.Native.Nat.{_+_, _-_, _*_, _/_}
 use lib.Dec.{lit<}
 use Rattle.word8.specs.Width.{W}
-use Rattle.rules.proofs.RowSearch.{first-at-most, first-frame}
+use Rattle.laws.proofs.searches.RowSearch.{first-at-most, first-frame}
 use Rattle.search8.proofs.forward.first_further.Statement.{statement}
 use Rattle.search8.proofs.forward.first_further.Tie as tie
 

@@ -2,7 +2,7 @@
 use borrow.Author.Needs.{needs}
 use native.Mathlib.Omega.{arith}
 use Rattle.word8.specs.Width.{W}
-use Rattle.rules.proofs.WordSearch.{first-past, first-some, first-none, first-of-none}
+use Rattle.laws.proofs.searches.WordSearch.{first-past, first-some, first-none, first-of-none}
 use Rattle.search8.proofs.forward.first_in_word.Statement.{statement}
 use Rattle.search8.proofs.forward.first_in_word.Tie as tie
 

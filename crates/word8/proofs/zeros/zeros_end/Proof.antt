@@ -3,7 +3,7 @@ use borrow.Author.Needs.{needs}
 use native.Mathlib.Omega.{arith}
 use lib.Count.{trailing-le, leading-le}
 use Rattle.word8.specs.Width.{W}
-use Rattle.rules.proofs.WordSearch.{first-lsb0, first-msb0}
+use Rattle.laws.proofs.searches.WordSearch.{first-lsb0, first-msb0}
 use Rattle.word8.proofs.zeros.zeros_end.Statement.{statement}
 use Rattle.word8.proofs.zeros.zeros_end.Tie as tie
 

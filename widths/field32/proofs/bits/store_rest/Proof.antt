@@ -7,8 +7,7 @@ use lib.Dec.{lit<}
 use denote.Ref.{now}
 use Rattle.word32.specs.Width.{W}
 use Rattle.rules.specs.Fields.{storeOf}
-use Rattle.rules.proofs.Cuts.{firstOf, first-all}
-use Rattle.rules.proofs.Pieces.{store-last}
+use Rattle.laws.proofs.fields.Cuts.{firstOf, first-all, store-last}
 use Rattle.field32.proofs.bits.store_rest.Statement.{statement}
 use Rattle.field32.proofs.bits.store_rest.Tie as tie
 

@@ -9,9 +9,8 @@ use denote.Ref.{now}
 use Rattle.word32.specs.Width.{W}
 use Rattle.rules.specs.declared.Significance.{Significance}
 use Rattle.rules.specs.Fields.{loadOf}
-use Rattle.rules.proofs.Chunk.{own}
-use Rattle.rules.proofs.Cuts.{joined, load-fits}
-use Rattle.rules.proofs.Chunks.{chunk, chunk-piece, chunk-two}
+use Rattle.laws.proofs.fields.Chunk.{own, chunk, chunk-piece, chunk-two}
+use Rattle.laws.proofs.fields.Cuts.{joined, load-fits}
 use Rattle.field32.proofs.near.load_near.Statement.{statement}
 use Rattle.field32.proofs.near.load_near.Tie as tie
 

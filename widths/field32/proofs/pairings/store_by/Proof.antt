@@ -4,7 +4,7 @@ use native.Mathlib.Omega.{arith}
 use mathlib.Core.Path.{refl}
 use Prim.Native.Nat.{_+_, _≤_, _<_}
 use Rattle.word32.specs.Width.{W}
-use Rattle.rules.proofs.Chunk.{own}
+use Rattle.laws.proofs.fields.Chunk.{own}
 use Rattle.field32.proofs.pairings.store_by.Statement.{statement}
 use Rattle.field32.proofs.pairings.store_by.Tie as tie
 

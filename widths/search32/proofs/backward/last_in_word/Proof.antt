@@ -2,7 +2,7 @@
 use borrow.Author.Needs.{needs}
 use native.Mathlib.Omega.{arith}
 use Rattle.word32.specs.Width.{W}
-use Rattle.rules.proofs.WordSearch.{last-past, last-some, last-none, last-of-none}
+use Rattle.laws.proofs.searches.WordSearch.{last-past, last-some, last-none, last-of-none}
 use Rattle.search32.proofs.backward.last_in_word.Statement.{statement}
 use Rattle.search32.proofs.backward.last_in_word.Tie as tie
 

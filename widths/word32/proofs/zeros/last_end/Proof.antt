@@ -3,7 +3,7 @@ use borrow.Author.Needs.{needs}
 use native.Mathlib.Omega.{arith}
 use lib.Count.{trailing-le, leading-le}
 use Rattle.word32.specs.Width.{W}
-use Rattle.rules.proofs.WordSearch.{last-lsb0, last-msb0}
+use Rattle.laws.proofs.searches.WordSearch.{last-lsb0, last-msb0}
 use Rattle.word32.proofs.zeros.last_end.Statement.{statement}
 use Rattle.word32.proofs.zeros.last_end.Tie as tie
 
