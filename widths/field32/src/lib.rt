@@ -1,15 +1,8 @@
 // Single bits and fields of words of 32 bits. Every call takes any arguments: its promise is the rules' answer to them, and each lent word.
-mod bits;
-mod chunks;
-mod near;
-mod pairings;
-mod parts;
-mod words;
-
-use crate::pairings::load_by;
-use crate::pairings::store_by;
-use crate::parts::put_piece;
-use crate::words::word_at;
+use bits32::load_by;
+use bits32::put_piece;
+use bits32::store_by;
+use chunk32::word_at;
 use rules::BitAnswer;
 use rules::Index;
 use rules::Number;
