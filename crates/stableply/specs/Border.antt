@@ -17,7 +17,8 @@ use Rattle.rules.specs.declared.Number.the-variants.{Up, Down}
 use Rattle.rules.specs.declared.Span.{Span}
 use Rattle.rules.specs.Positions.{span}
 use Rattle.rules.specs.Fields.{bitsOf}
-use Rattle.rules.specs.Calls.{Answer, refused, done, a-position, a-selector, a-mask, a-span, two-spans, a-bit, a-number, says-yes, says-no, found-at, absent, Call, answer, after, swapAnswer, swapLeft, swapRight}
+use Rattle.rules.specs.Calls.{Answer, refused, done, a-position, a-selector, a-mask, a-span, two-spans, a-bit, a-number, says-yes, says-no}
+use Rattle.rules.specs.Calls.{found-at, absent, Call, answer, after, swapAnswer, swapLeft, swapRight}
 
 -- an order: 0 Lsb0, 1 Msb0
 abbrev pub orderOf : ℕ → Order
