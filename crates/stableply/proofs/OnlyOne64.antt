@@ -2,7 +2,7 @@
 -- nothing.
 use mathlib.Core.Path.{_≡_}
 use denote.Ref.{now}
-use Rattle.stableply.proofs.OnlyOne.{told-only, found-only, wrote-only, swapped-only}
+use Rattle.border.proofs.OneOutcome.{told-only, found-only, wrote-only, swapped-only}
 use Rattle.stableply.proofs.fields64.stableply64_read_bit.Reads as stableply64-read-bit
 use Rattle.stableply.proofs.fields64.stableply64_write_bit.Reads as stableply64-write-bit
 use Rattle.stableply.proofs.fields64.stableply64_load.Reads as stableply64-load

@@ -1,18 +1,18 @@
 // The exported calls on single bits and fields of rows of words of 64 bits.
-use crate::codes::bit_of;
-use crate::codes::number_of;
-use crate::codes::sign_of;
-use crate::codes::significance_of;
-use crate::codes::span_of;
-use crate::leaving::leave_bit;
-use crate::leaving::leave_number;
-use crate::leaving::leave_write;
+use border::bit_of;
+use border::leave_bit;
+use border::leave_number;
+use border::leave_write;
+use border::number_of;
+use border::sign_of;
+use border::significance_of;
+use border::span_of;
 use rules::Verdict;
 use rules::Width;
 ghost use mathlib.Core.Bool.{_||_};
 ghost use Rattle.rules.specs.Fields.{whole};
 ghost use Rattle.rules.specs.Calls.{readBit, writeBit, load, store, storeStrict, answer};
-ghost use Rattle.stableply.specs.Border.{spanOf, bitOf, significanceOf, signOf, numberOf, none, behind, Told, Wrote};
+ghost use Rattle.border.specs.Border.{spanOf, bitOf, significanceOf, signOf, numberOf, none, behind, Told, Wrote};
 
 // One bit of a span, as 0 or 1.
 #[no_mangle]

@@ -1,8 +1,8 @@
 // The exported searches of rows of words of 64 bits.
-use crate::codes::span_of;
-use crate::leaving::leave_found;
+use border::leave_found;
+use border::span_of;
 ghost use Rattle.rules.specs.Calls.{findFirst, findLast, answer};
-ghost use Rattle.stableply.specs.Border.{spanOf, none, behind, Found};
+ghost use Rattle.border.specs.Border.{spanOf, none, behind, Found};
 
 // The smallest index of a one, counted from the span's start, or absent.
 #[no_mangle]

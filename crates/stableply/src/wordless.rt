@@ -1,17 +1,17 @@
 // The exported calls without lent words.
-use crate::codes::order_of;
-use crate::codes::span_of;
-use crate::leaving::leave_mask;
-use crate::leaving::leave_position;
-use crate::leaving::leave_rest;
-use crate::leaving::leave_selector;
+use border::leave_mask;
+use border::leave_position;
+use border::leave_rest;
+use border::leave_selector;
+use border::order_of;
+use border::span_of;
 use rules::End;
 use rules::Index;
 use rules::Width;
 ghost use mathlib.Core.Bool.{_||_};
 ghost use Rattle.rules.specs.Bits.{bits};
 ghost use Rattle.rules.specs.Calls.{positionAnswer, selectorAnswer, maskAnswer, splitAnswer};
-ghost use Rattle.stableply.specs.Border.{orderOf, spanOf, none, noWidth, behind, Told, Rest};
+ghost use Rattle.border.specs.Border.{orderOf, spanOf, none, noWidth, behind, Told, Rest};
 
 fn position(width: Width, order: u8, index: usize, out: &mut u64) -> u8
     ensures { λ r. ⌜ Told (behind (none order) (positionAnswer (bits width) (orderOf order) index)) (now (out .entry)) r (now (out .exit)) ⌝ }

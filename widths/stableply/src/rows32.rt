@@ -1,11 +1,11 @@
 // The exported calls on rows of words of 32 bits.
-use crate::codes::is_operation;
-use crate::codes::span_of;
-use crate::leaving::leave_equal;
-use crate::leaving::leave_write;
+use border::is_operation;
+use border::leave_equal;
+use border::leave_write;
+use border::span_of;
 ghost use mathlib.Core.Bool.{_||_};
 ghost use Rattle.rules.specs.Calls.{here, there, copyFrom, copyWithin, boolean, equal, answer};
-ghost use Rattle.stableply.specs.Border.{spanOf, none, noOperation, behind, Told, Wrote, Swapped};
+ghost use Rattle.border.specs.Border.{spanOf, none, noOperation, behind, Told, Wrote, Swapped};
 
 // Copies a span of another buffer, bit for bit.
 #[no_mangle]

@@ -2,8 +2,8 @@
 use borrow.Author.Needs.{needs}
 use borrow.Author.Tests.{lt-ltb, not-true, not-false}
 use mathlib.Core.Path.{sym, _∙_}
-use Rattle.stableply.proofs.Naming.{first-none, later-none, all-named, no-operation, an-operation}
-use Rattle.stableply.proofs.Crossing.{wrote-stopped, wrote}
+use Rattle.border.proofs.Naming.{first-none, later-none, all-named, no-operation, an-operation}
+use Rattle.border.proofs.Crossing.{wrote-stopped, wrote}
 use Rattle.stableply.proofs.rows64.stableply64_boolean.Statement.{statement}
 use Rattle.stableply.proofs.rows64.stableply64_boolean.Tie as tie
 

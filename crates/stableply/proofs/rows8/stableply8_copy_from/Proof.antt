@@ -1,8 +1,8 @@
 -- `stableply8_copy_from`: a code that is none gives 255; else the promise is that of the call behind it, the arguments named.
 use borrow.Author.Needs.{needs}
 use borrow.Author.Tests.{lt-ltb, le-ltb}
-use Rattle.stableply.proofs.Naming.{first-none, later-none, all-named}
-use Rattle.stableply.proofs.Crossing.{wrote-stopped, wrote}
+use Rattle.border.proofs.Naming.{first-none, later-none, all-named}
+use Rattle.border.proofs.Crossing.{wrote-stopped, wrote}
 use Rattle.stableply.proofs.rows8.stableply8_copy_from.Statement.{statement}
 use Rattle.stableply.proofs.rows8.stableply8_copy_from.Tie as tie
 

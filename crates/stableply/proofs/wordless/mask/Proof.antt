@@ -11,7 +11,7 @@ use borrow.Author.Tests.{lt-ltb, le-ltb}
 use Rattle.rules.specs.declared.Order.{Order}
 use Rattle.rules.specs.Bits.{bits}
 use Rattle.rules.specs.Calls.{maskAnswer}
-use Rattle.stableply.proofs.Crossing.{told-stopped, told}
+use Rattle.border.proofs.Crossing.{told-stopped, told}
 
 returns : tie.Need-returns
 returns c = told-stopped _ (lt-ltb _ _ (c .if1 .taken))

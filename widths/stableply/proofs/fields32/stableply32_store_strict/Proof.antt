@@ -10,9 +10,9 @@ use Rattle.rules.specs.declared.Verdict.the-variants.{Fine}
 use Rattle.rules.specs.Fields.{whole}
 use Rattle.rules.specs.Refusals.{verdict, storeStrictCases}
 use Rattle.laws.proofs.fields.FieldCalls.{strict-refused, strict-by-store}
-use Rattle.stableply.specs.Border.{spanOf, significanceOf, signOf, numberOf, none}
-use Rattle.stableply.proofs.Naming.{first-none, later-none, all-named}
-use Rattle.stableply.proofs.Crossing.{wrote-stopped, wrote, wrote-as}
+use Rattle.border.specs.Border.{spanOf, significanceOf, signOf, numberOf, none}
+use Rattle.border.proofs.Naming.{first-none, later-none, all-named}
+use Rattle.border.proofs.Crossing.{wrote-stopped, wrote, wrote-as}
 use Rattle.stableply.proofs.fields32.stableply32_store_strict.Statement.{statement}
 use Rattle.stableply.proofs.fields32.stableply32_store_strict.Tie as tie
 use Rattle.rules.proofs.refusals.OneAnswer.{judged}

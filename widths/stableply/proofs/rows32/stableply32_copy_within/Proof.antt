@@ -1,7 +1,7 @@
 -- `stableply32_copy_within`: a code that is none gives 255; else the promise is that of the call behind it, the arguments named.
 use borrow.Author.Needs.{needs}
 use borrow.Author.Tests.{lt-ltb, le-ltb}
-use Rattle.stableply.proofs.Crossing.{wrote-stopped, wrote}
+use Rattle.border.proofs.Crossing.{wrote-stopped, wrote}
 use Rattle.stableply.proofs.rows32.stableply32_copy_within.Statement.{statement}
 use Rattle.stableply.proofs.rows32.stableply32_copy_within.Tie as tie
 

@@ -6,7 +6,7 @@ use rules::Significance;
 use rules::Span;
 ghost use mathlib.Core.Path.{_≡_};
 ghost use mathlib.Core.Bool.{not};
-ghost use Rattle.stableply.specs.Border.{orderOf, significanceOf, signOf, numberOf, bitOf, spanOf, noOperation};
+ghost use Rattle.border.specs.Border.{orderOf, significanceOf, signOf, numberOf, bitOf, spanOf, noOperation};
 
 // The order that a code names.
 pub fn order_of(code: u8) -> Order

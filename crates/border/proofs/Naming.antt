@@ -12,7 +12,7 @@ use Rattle.rules.specs.declared.NumberAnswer.{NumberAnswer}
 use Rattle.rules.specs.declared.NumberAnswer.the-variants.{Is}
 use Rattle.rules.specs.Fields.{bitsOf}
 use Rattle.rules.specs.Answers.{numberSays}
-use Rattle.stableply.specs.Border.{orderOf, significanceOf, signOf, numberOf, bitOf, noWidth, none, Told}
+use Rattle.border.specs.Border.{orderOf, significanceOf, signOf, numberOf, bitOf, noWidth, none, Told}
 
 module _ (code : ℕ) (some : code ≡ 0 → ⊥) where
   pub second-order : Msb0 ≡ orderOf code

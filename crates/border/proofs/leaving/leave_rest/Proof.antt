@@ -1,9 +1,9 @@
 -- `leave_rest`: the three numbers of the rest, or nothing.
 use borrow.Author.Needs.{needs}
-use Rattle.stableply.proofs.leaving.leave_rest.Statement.{statement}
-use Rattle.stableply.proofs.leaving.leave_rest.Tie as tie
-use Rattle.stableply.proofs.leaving.leave_rest.Reads as reads
-use Rattle.stableply.proofs.leaving.leave_rest.Lts as lts
+use Rattle.border.proofs.leaving.leave_rest.Statement.{statement}
+use Rattle.border.proofs.leaving.leave_rest.Tie as tie
+use Rattle.border.proofs.leaving.leave_rest.Reads as reads
+use Rattle.border.proofs.leaving.leave_rest.Lts as lts
 use Rattle.rules.proofs.Refusal.number.Reads as number-reads
 use mathlib.Core.Path.{refl}
 

@@ -1,7 +1,7 @@
 -- `span_of`: the span of these parts, in the order that the first names.
 use borrow.Author.Needs.{needs}
-use Rattle.stableply.proofs.codes.span_of.Statement.{statement}
-use Rattle.stableply.proofs.codes.span_of.Tie as tie
+use Rattle.border.proofs.codes.span_of.Statement.{statement}
+use Rattle.border.proofs.codes.span_of.Tie as tie
 
 order-of-requires : tie.Need-order-of-requires
 order-of-requires c κs = search needs

@@ -11,7 +11,7 @@ use rules::SplitAnswer;
 use rules::WriteAnswer;
 ghost use mathlib.Core.Path.{_≡_};
 ghost use Rattle.rules.specs.Answers.{positionSays, selectorSays, maskSays, splitSays, bitSays, numberSays, writeSays, equalSays, searchSays};
-ghost use Rattle.stableply.specs.Border.{Told, Found, Rest, returned};
+ghost use Rattle.border.specs.Border.{Told, Found, Rest, returned};
 
 pub fn leave_position(answer: PositionAnswer, out: &mut u64) -> u8
     ensures { λ r. ⌜ Told (positionSays answer) (now (out .entry)) r (now (out .exit)) ⌝ }

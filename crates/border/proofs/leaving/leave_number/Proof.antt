@@ -1,11 +1,11 @@
 -- `leave_number`: a number below 0 leaves as its bits in 64-bit two's complement.
 use borrow.Author.Needs.{needs}
-use Rattle.stableply.proofs.leaving.leave_number.Statement.{statement}
-use Rattle.stableply.proofs.leaving.leave_number.Tie as tie
-use Rattle.stableply.proofs.leaving.leave_number.Reads as reads
-use Rattle.stableply.proofs.leaving.leave_number.Lts as lts
+use Rattle.border.proofs.leaving.leave_number.Statement.{statement}
+use Rattle.border.proofs.leaving.leave_number.Tie as tie
+use Rattle.border.proofs.leaving.leave_number.Reads as reads
+use Rattle.border.proofs.leaving.leave_number.Lts as lts
 use Rattle.rules.proofs.Refusal.number.Reads as number-reads
-use Rattle.stableply.proofs.Naming.{leaves-up, leaves-down}
+use Rattle.border.proofs.Naming.{leaves-up, leaves-down}
 
 enum-known-answer : tie.Need-enum-known-answer
 enum-known-answer c = search needs

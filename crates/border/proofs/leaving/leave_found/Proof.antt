@@ -1,8 +1,8 @@
 -- `leave_found`: the flag, and the index where there is one, or nothing.
 use borrow.Author.Needs.{needs}
 use mathlib.Core.Path.{refl}
-use Rattle.stableply.proofs.leaving.leave_found.Statement.{statement}
-use Rattle.stableply.proofs.leaving.leave_found.Tie as tie
+use Rattle.border.proofs.leaving.leave_found.Statement.{statement}
+use Rattle.border.proofs.leaving.leave_found.Tie as tie
 
 enum-known-answer : tie.Need-enum-known-answer
 enum-known-answer c = search needs

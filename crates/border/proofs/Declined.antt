@@ -7,7 +7,7 @@ use mathlib.Core.List.{List}
 use Rattle.rules.specs.declared.Span.{Span}
 use Rattle.rules.specs.Calls.{Answer, Call, answer, after, swapAnswer, swapLeft, swapRight}
 use Rattle.rules.specs.Mixtures.{no-call, told, left}
-use Rattle.stableply.specs.Border.{behind, kept, returned, behindPointer, Told, Found, Rest, Wrote, Swapped}
+use Rattle.border.specs.Border.{behind, kept, returned, behindPointer, Told, Found, Rest, Wrote, Swapped}
 
 module _ (bad : Bool) (none : bad ≡ true) (a : Answer) where
   -- a writing call: the number and the buffer of a mixture's `no-call`, at any width

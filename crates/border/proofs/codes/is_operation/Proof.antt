@@ -1,9 +1,9 @@
 -- `is_operation`: the three numbers, one after another.
 use native.Mathlib.Omega.{arith}
 use borrow.Author.Tests.{eq-eqb, ne-eqb}
-use Rattle.stableply.proofs.Naming.{not-not}
-use Rattle.stableply.proofs.codes.is_operation.Statement.{statement}
-use Rattle.stableply.proofs.codes.is_operation.Tie as tie
+use Rattle.border.proofs.Naming.{not-not}
+use Rattle.border.proofs.codes.is_operation.Statement.{statement}
+use Rattle.border.proofs.codes.is_operation.Tie as tie
 
 returns : tie.Need-returns
 returns c = rw (eq-eqb (c .before .args .operation) 8 (c .if1 .taken))

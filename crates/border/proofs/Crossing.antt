@@ -6,7 +6,7 @@ use mathlib.Core.List.{List}
 use Rattle.rules.specs.declared.Span.{Span}
 use Rattle.rules.specs.Calls.{Answer, Call, answer, after}
 use Rattle.rules.specs.Answers.{Gives, Swaps}
-use Rattle.stableply.specs.Border.{behind, kept, returned, Told, Found, Rest, Wrote, Swapped}
+use Rattle.border.specs.Border.{behind, kept, returned, Told, Found, Rest, Wrote, Swapped}
 
 module _ {bad : Bool} (a : Answer) where
   pub told-stopped : {old : ℕ} → bad ≡ true → Told (behind bad a) old 255 old
