@@ -3,8 +3,8 @@
 use std::env;
 use std::ffi::OsString;
 use std::io::ErrorKind;
-use std::path::{Path, PathBuf, absolute};
-use std::process::{Command, exit};
+use std::path::{absolute, Path, PathBuf};
+use std::process::{exit, Command};
 
 const ARCHIVE: &str = "libstableply.a";
 const FOLDER_VARIABLE: &str = "STABLEPLY_LIB_DIR";

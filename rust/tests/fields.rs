@@ -2,7 +2,7 @@
 
 mod rules;
 
-use rules::{SIGNIFICANCES, Sample, bit, number, put, rows, spans};
+use rules::{bit, number, put, rows, spans, Sample, SIGNIFICANCES};
 use stableply::Significance::Le;
 use stableply::{BitRow, Integer, IntegerKind, Order, Refusal, Span};
 
@@ -31,7 +31,11 @@ fn every_bit() {
 /// The number of the low `length` bits of `bits`, signed or not.
 fn read_as(bits: u64, length: usize, signed: bool) -> i128 {
     let number = i128::from(bits) % (1 << length);
-    if signed && number >= 1 << (length - 1) { number - (1 << length) } else { number }
+    if signed && number >= 1 << (length - 1) {
+        number - (1 << length)
+    } else {
+        number
+    }
 }
 
 /// Loads and stores of one integer type, at every span of 1 to K bits.

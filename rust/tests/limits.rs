@@ -6,7 +6,7 @@ mod rules;
 use calls::assert_all;
 use rules::ORDERS;
 use stableply::Significance::Le;
-use stableply::{BitRow, IntegerKind, MOST_WORDS, Refusal, Span, Word};
+use stableply::{BitRow, IntegerKind, Refusal, Span, Word, MOST_WORDS};
 
 fn words_lent<W: Word + Default>() {
     for order in ORDERS {

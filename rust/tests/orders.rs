@@ -2,7 +2,7 @@
 
 mod rules;
 
-use rules::{ORDERS, Sample, bit, mixed, spans};
+use rules::{bit, mixed, spans, Sample, ORDERS};
 use stableply::{Mask, Order, Position, Refusal, Selector};
 
 fn positions_and_selectors<W: Sample>() {

@@ -7,7 +7,7 @@ use calls::assert_all;
 use rules::ORDERS;
 use stableply::Order::{Lsb0, Msb0};
 use stableply::Significance::{Be, Le};
-use stableply::{BitRow, IntegerKind, MOST_WORDS, Operation, Refusal, Span, Word};
+use stableply::{BitRow, IntegerKind, Operation, Refusal, Span, Word, MOST_WORDS};
 
 fn one_span<W: Word + Default>() {
     for order in ORDERS {

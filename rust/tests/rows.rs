@@ -2,7 +2,7 @@
 
 mod rules;
 
-use rules::{Sample, bit, mixed, put, rows, spans};
+use rules::{bit, mixed, put, rows, spans, Sample};
 use stableply::{BitRow, Operation, Order, Span};
 
 /// Both rows of every pair of spans of one order whose lengths satisfy `fit`.

@@ -37,12 +37,7 @@ pub(crate) fn inside(start: u64, count: u64, span: Span) -> Result<(), Refusal> 
 }
 
 /// Refusals 1 to 3 of the first span, 1 to 3 of the second, then 6.
-pub(crate) fn two_spans<T: Word>(
-    first_words: &[T],
-    first: Span,
-    second_words: &[T],
-    second: Span,
-) -> Result<(), Refusal> {
+pub(crate) fn two_spans<T: Word>(first_words: &[T], first: Span, second_words: &[T], second: Span) -> Result<(), Refusal> {
     in_bounds(first_words, first)?;
     in_bounds(second_words, second)?;
     refuse(6, first.order != second.order)

@@ -16,13 +16,7 @@ pub fn copy_from<T: Word>(target: &mut [T], to: Span, source: &[T], from: Span) 
 }
 
 /// Makes bit `destination` + i the old bit `start` + i, for all i below `count` at once.
-pub fn copy_within<T: Word>(
-    words: &mut [T],
-    row: Span,
-    start: u64,
-    count: u64,
-    destination: u64,
-) -> Result<(), Refusal> {
+pub fn copy_within<T: Word>(words: &mut [T], row: Span, start: u64, count: u64, destination: u64) -> Result<(), Refusal> {
     in_bounds(words, row)?;
     inside(start, count, row)?;
     inside(destination, count, row)?;
@@ -35,13 +29,7 @@ pub fn copy_within<T: Word>(
 
 /// Makes each left bit a, beside right bit b, bit 2a + b of `operation`. Right
 /// bits past its end are false.
-pub fn boolean<T: Word>(
-    words: &mut [T],
-    left: Span,
-    right_words: &[T],
-    right: Span,
-    operation: u8,
-) -> Result<(), Refusal> {
+pub fn boolean<T: Word>(words: &mut [T], left: Span, right_words: &[T], right: Span, operation: u8) -> Result<(), Refusal> {
     two_spans(words, left, right_words, right)?;
     for i in 0..left.length {
         let a = bit_of(words, left, i);

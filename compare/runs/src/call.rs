@@ -138,13 +138,7 @@ impl Call {
     pub fn writes(self) -> bool {
         matches!(
             self,
-            Call::WriteBit
-                | Call::Store
-                | Call::StoreStrict
-                | Call::CopyFrom
-                | Call::CopyWithin
-                | Call::Boolean
-                | Call::Swap
+            Call::WriteBit | Call::Store | Call::StoreStrict | Call::CopyFrom | Call::CopyWithin | Call::Boolean | Call::Swap
         )
     }
 

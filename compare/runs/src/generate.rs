@@ -92,14 +92,7 @@ fn row_length<T: Lent>(rows: Rows, random: &mut Random) -> u64 {
 
 /// Gives the first (or the second) span an order, a place and the length; says how many words have
 /// to be lent. The span mostly ends in the last of them.
-fn place_row<T: Lent>(
-    request: &mut Request<T>,
-    second: bool,
-    width: u64,
-    length: u64,
-    rows: Rows,
-    random: &mut Random,
-) -> u64 {
+fn place_row<T: Lent>(request: &mut Request<T>, second: bool, width: u64, length: u64, rows: Rows, random: &mut Random) -> u64 {
     let (order, word, head) = if second { (OtherOrder, OtherWord, OtherHead) } else { (Order, Word, Head) };
     request[if second { OtherLength } else { Length }] = length;
     request[order] = if second { request[Order] } else { random.upto(1) };

@@ -59,14 +59,8 @@ fn loads() -> Vec<Sample> {
     ];
     let of_order = |order: usize| {
         rows.map(|(head, length, k, significance, sign, numbers)| {
-            let arguments = [
-                (Order, order as u64),
-                (Head, head),
-                (Length, length),
-                (K, k),
-                (Significance, significance),
-                (Sign, sign),
-            ];
+            let arguments =
+                [(Order, order as u64), (Head, head), (Length, length), (K, k), (Significance, significance), (Sign, sign)];
             sample(Call::Load, &ROW, &arguments, Answer::Number(numbers[order] as u64), &ROW)
         })
     };

@@ -64,10 +64,9 @@ pub fn known_contest<T: Width>(job: Job, k: usize) -> Contest<T> {
     let places = places::<T>(0, k);
     let (at, heads): (Vec<usize>, Vec<usize>) = places.iter().map(|row| (row.word, row.head)).unzip();
     let (library, bitvec): (Work<T>, Work<T>) = match job {
-        Job::Load => (
-            Box::new(move |buffers| T::known_loads(&buffers.left, &at, &heads, k)),
-            bitvec_load::<T, Lsb0>(places, kind),
-        ),
+        Job::Load => {
+            (Box::new(move |buffers| T::known_loads(&buffers.left, &at, &heads, k)), bitvec_load::<T, Lsb0>(places, kind))
+        }
         Job::Store => (
             Box::new(move |buffers| {
                 T::known_stores(&mut buffers.left, &at, &heads, k, black_box(0x5A));
@@ -76,11 +75,7 @@ pub fn known_contest<T: Width>(job: Job, k: usize) -> Contest<T> {
             bitvec_store::<T, Lsb0>(places, kind),
         ),
     };
-    Contest {
-        buffers: Buffers::random(WORDS),
-        works: vec![(Who::Library, library), (Who::Bitvec, bitvec)],
-        repeat: FIELDS,
-    }
+    Contest { buffers: Buffers::random(WORDS), works: vec![(Who::Library, library), (Who::Bitvec, bitvec)], repeat: FIELDS }
 }
 
 /// Takes all fields; answers a mix of their numbers.
@@ -114,8 +109,7 @@ fn by_hand<T: Width>(job: Job, places: Vec<Row>, kind: Kind, calls: Checked<T>) 
             let (mut out, lent) = (0, words.len());
             let Row { order, word, head, length } = row;
             let load = calls.load;
-            let code =
-                unsafe { load(words.as_ptr(), lent, order, word, head, length, k, significance, sign, &mut out) };
+            let code = unsafe { load(words.as_ptr(), lent, order, word, head, length, k, significance, sign, &mut out) };
             out | done(code)
         }),
         Job::Store => each_store(places, move |words: &mut [T], row, value| {

@@ -243,15 +243,6 @@ fn first_word_searches<T: Width>(lines: &mut Vec<Line>, effort: Effort, order: u
         contest.works.retain(|(who, _)| *who != Who::Memory);
         let times = contest.run(effort.rounds);
         let bars = vec![bar(Who::Plain, NEARLY_PLAIN)];
-        lines.push(Line {
-            part: Part::FirstWord,
-            job: name,
-            width,
-            order,
-            words: LONGEST,
-            bits: row.length,
-            times,
-            bars,
-        });
+        lines.push(Line { part: Part::FirstWord, job: name, width, order, words: LONGEST, bits: row.length, times, bars });
     }
 }

@@ -105,9 +105,9 @@ where
     let (start, count, destination) = task.ranges();
     match job {
         Job::CopyFrom => writes(repeat, move |b| left.see_mut::<T, O>(&mut b.left).copy_from(right.see(&b.right))),
-        Job::CopyUp(_) | Job::CopyDown(_) => writes(repeat, move |b| unsafe {
-            left.see_mut::<T, O>(&mut b.left).copy_within(start..start + count, destination)
-        }),
+        Job::CopyUp(_) | Job::CopyDown(_) => {
+            writes(repeat, move |b| unsafe { left.see_mut::<T, O>(&mut b.left).copy_within(start..start + count, destination) })
+        }
         Job::Boolean(8) => writes(repeat, move |b| left.see_mut::<T, O>(&mut b.left).bitop::<8>(right.see(&b.right))),
         Job::Boolean(14) => writes(repeat, move |b| left.see_mut::<T, O>(&mut b.left).bitop::<14>(right.see(&b.right))),
         Job::Boolean(_) => writes(repeat, move |b| left.see_mut::<T, O>(&mut b.left).bitop::<6>(right.see(&b.right))),

@@ -14,9 +14,7 @@ pub use calls::{w64, w8};
 use std::ops::{BitAnd, BitOr, BitXor};
 
 /// A word of plain Rust. Bits move along their indexes, in the order that `MSB0` says.
-pub trait Plain:
-    Copy + Eq + Default + BitAnd<Output = Self> + BitOr<Output = Self> + BitXor<Output = Self> + 'static
-{
+pub trait Plain: Copy + Eq + Default + BitAnd<Output = Self> + BitOr<Output = Self> + BitXor<Output = Self> + 'static {
     const WIDTH: usize;
 
     /// Each bit `by` indexes nearer to index 0; `by` is below the width.
