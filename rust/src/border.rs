@@ -21,7 +21,7 @@
 use crate::{IntegerKind, Operation, Order, Refusal, Sign, Significance, Span, Word};
 
 mod calls;
-use calls::{Calls, stableply_mask, stableply_position, stableply_selector, stableply_split};
+use calls::{stableply_mask, stableply_position, stableply_selector, stableply_split, Calls};
 
 #[cfg(not(target_pointer_width = "64"))]
 compile_error!("the archive of stableply is for machines whose size_t has 64 bits");
@@ -35,20 +35,21 @@ pub trait Border: Sized {
     fn narrowed(number: u64) -> Self;
 }
 
-impl Border for u8 {
-    const CALLS: Calls<u8> = calls::ON_U8;
+macro_rules! widths {
+    ($($word:ty: $calls:ident;)*) => {$(
+        impl Border for $word {
+            const CALLS: Calls<$word> = calls::$calls;
 
-    fn narrowed(number: u64) -> u8 {
-        number as u8
-    }
+            fn narrowed(number: u64) -> $word {
+                number as $word
+            }
+        }
+    )*};
 }
 
-impl Border for u64 {
-    const CALLS: Calls<u64> = calls::ON_U64;
-
-    fn narrowed(number: u64) -> u64 {
-        number
-    }
+widths! {
+    u8: ON_U8;
+    u64: ON_U64;
 }
 
 /// The archive's code of an order.
