@@ -50,6 +50,9 @@ pub struct Checked<T> {
     pub store: unsafe extern "C" fn(*mut T, usize, u8, usize, usize, usize, usize, u8, u8, u8, u64) -> u8,
 }
 
+/// A copy inside a row: its words, the row, start, count and destination. It answers as `Calls` says.
+pub type CopyWithin<T> = fn(&mut [T], Row, usize, usize, usize) -> u64;
+
 /// A word's type with both.
 pub trait Width: Lent + Plain {
     type Library: Calls<Self>;
@@ -58,8 +61,8 @@ pub trait Width: Lent + Plain {
     /// Fields by hand with every refusal, where that is written.
     const CHECKED: Option<Checked<Self>>;
 
-    /// Copy inside by plain Rust that takes eight bytes at once, where a word has fewer: as `Calls` has it.
-    const BY_EIGHT: Option<fn(&mut [Self], Row, usize, usize, usize) -> u64>;
+    /// Copy inside by plain Rust that takes eight bytes at once, where a word has fewer.
+    const BY_EIGHT: Option<CopyWithin<Self>>;
 
     /// The fields of k bits that begin at a head of a word each, loaded by Rattle code: a mix of their numbers.
     fn known_loads(words: &[Self], places: &[usize], heads: &[usize], k: usize) -> u64;
@@ -75,7 +78,7 @@ macro_rules! width {
             type PlainRust = PlainRust;
 
             const CHECKED: Option<Checked<$word>> = $checked;
-            const BY_EIGHT: Option<fn(&mut [$word], Row, usize, usize, usize) -> u64> = $by_eight;
+            const BY_EIGHT: Option<CopyWithin<$word>> = $by_eight;
 
             fn known_loads(words: &[$word], places: &[usize], heads: &[usize], k: usize) -> u64 {
                 let mut mix = 0;

@@ -1,12 +1,10 @@
 //! Each limit at, below and above it, and sums that pass 2^64.
 
-mod calls;
-mod rules;
-
-use calls::assert_all;
-use rules::ORDERS;
 use stableply::Significance::Le;
 use stableply::{BitRow, IntegerKind, Refusal, Span, Word, MOST_WORDS};
+
+use crate::every_call::assert_all;
+use crate::tried::ORDERS;
 
 fn words_lent<W: Word + Default>() {
     for order in ORDERS {

@@ -1,13 +1,11 @@
 //! Which refusal comes first where several apply, that a refused call changes nothing, and what a refusal says of itself.
 
-mod calls;
-mod rules;
-
-use calls::assert_all;
-use rules::ORDERS;
 use stableply::Order::{Lsb0, Msb0};
 use stableply::Significance::{Be, Le};
 use stableply::{BitRow, IntegerKind, Operation, Refusal, Span, Word, MOST_WORDS};
+
+use crate::every_call::assert_all;
+use crate::tried::ORDERS;
 
 fn one_span<W: Word + Default>() {
     for order in ORDERS {
