@@ -30,11 +30,11 @@ macro_rules! word {
 
 word!(u8, u64);
 
-/// Which end of a word index 0 is.
+/// Which end of a word index 0 is. As a number it is C's code.
 #[derive(Clone, Copy, Debug, Eq, PartialEq)]
 pub enum Order {
-    Lsb0,
-    Msb0,
+    Lsb0 = 0,
+    Msb0 = 1,
 }
 
 /// A row of bits in lent words.

@@ -28,6 +28,19 @@ impl Random {
         self.upto(times - 1) == 0
     }
 
+    /// One of these, each as often as the number beside it says.
+    pub fn weighted<C: Copy>(&mut self, choices: &[(u64, C)]) -> C {
+        let all: u64 = choices.iter().map(|(weight, _)| weight).sum();
+        let mut left = self.upto(all - 1);
+        for &(weight, choice) in choices {
+            if left < weight {
+                return choice;
+            }
+            left -= weight;
+        }
+        unreachable!("less than all weights together is drawn")
+    }
+
     /// One of these.
     pub fn one_of<C: Copy>(&mut self, choices: &[C]) -> C {
         choices[self.upto(choices.len() as u64 - 1) as usize]

@@ -12,6 +12,7 @@ use std::{
 
 use line::{Line, Part};
 use measures::{measure, Effort, LONGEST};
+use model::Order;
 
 mod alike;
 mod contest;
@@ -84,7 +85,8 @@ fn renew(docs: &Path, lines: &[Line]) {
     let (before, after) = around(docs).expect("BENCHMARKS.md to have its marks");
     let machine = format!("Measured on: {}.\n\n", processor());
     let text = [&before, BEGIN, &machine, &table::markdown(lines), END, &after].concat();
-    let shown = |line: &&Line| matches!(line.part, Part::Rows | Part::Searches) && line.words == LONGEST && line.order == 0;
+    let shown =
+        |line: &&Line| matches!(line.part, Part::Rows | Part::Searches) && line.words == LONGEST && line.order == Order::Lsb0;
     let shown: Vec<&Line> = lines.iter().filter(shown).collect();
     fs::write(docs.join("BENCHMARKS.md"), text).expect("BENCHMARKS.md to be writable");
     fs::write(docs.join("benchmarks.svg"), picture::svg(&shown)).expect("the picture to be writable");

@@ -5,6 +5,7 @@ use bitvec::{
     order::BitOrder,
     slice::BitSlice,
 };
+use model::{Order, Sign, Significance};
 use runs::{call::Call, lent::Lent};
 
 use crate::plain::{self, Plain};
@@ -12,7 +13,7 @@ use crate::plain::{self, Plain};
 /// A span of a buffer.
 #[derive(Clone, Copy)]
 pub struct Row {
-    pub order: u8,
+    pub order: Order,
     pub word: usize,
     pub head: usize,
     pub length: usize,
@@ -34,8 +35,8 @@ impl Row {
 #[derive(Clone, Copy)]
 pub struct Kind {
     pub k: usize,
-    pub significance: u8,
-    pub sign: u8,
+    pub significance: Significance,
+    pub sign: Sign,
 }
 
 /// The library's calls.
@@ -121,13 +122,13 @@ pub fn done(code: u8) -> u64 {
 
 macro_rules! one {
     ($name:path, $pointer:expr, $lent:expr, $row:expr $(, $rest:expr)*) => {
-        unsafe { $name($pointer, $lent, $row.order, $row.word, $row.head, $row.length $(, $rest)*) }
+        unsafe { $name($pointer, $lent, $row.order as u8, $row.word, $row.head, $row.length $(, $rest)*) }
     };
 }
 
 macro_rules! two {
     ($name:path, $pointer:expr, $lent:expr, $row:expr, $second:expr, $second_lent:expr, $from:expr $(, $rest:expr)*) => {
-        one!($name, $pointer, $lent, $row, $second, $second_lent, $from.order, $from.word, $from.head, $from.length $(, $rest)*)
+        one!($name, $pointer, $lent, $row, $second, $second_lent, $from.order as u8, $from.word, $from.head, $from.length $(, $rest)*)
     };
 }
 
@@ -140,14 +141,15 @@ macro_rules! calls {
                 #[inline(always)]
                 fn load(words: &[$word], row: Row, kind: Kind) -> u64 {
                     let (mut out, pointer, lent) = (0, words.as_ptr(), words.len());
-                    let code = one!(calls::load, pointer, lent, row, kind.k, kind.significance, kind.sign, &mut out);
+                    let code =
+                        one!(calls::load, pointer, lent, row, kind.k, kind.significance as u8, kind.sign as u8, &mut out);
                     out | done(code)
                 }
 
                 #[inline(always)]
                 fn store(words: &mut [$word], row: Row, kind: Kind, value: u64) -> u64 {
                     let (pointer, lent) = (words.as_mut_ptr(), words.len());
-                    done(one!(calls::store, pointer, lent, row, kind.k, kind.significance, kind.sign, 0, value))
+                    done(one!(calls::store, pointer, lent, row, kind.k, kind.significance as u8, kind.sign as u8, 0, value))
                 }
 
                 #[inline(always)]
