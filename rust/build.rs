@@ -6,7 +6,9 @@ use std::io::ErrorKind;
 use std::path::{absolute, Path, PathBuf};
 use std::process::{exit, Command};
 
+/// What is linked.
 const ARCHIVE: &str = "libstableply.a";
+/// Where a user names the folder that holds it.
 const FOLDER_VARIABLE: &str = "STABLEPLY_LIB_DIR";
 
 fn main() {

@@ -35,6 +35,7 @@ pub trait Border: Sized {
     fn narrowed(number: u64) -> Self;
 }
 
+/// Gives word types their calls: a width is one line.
 macro_rules! widths {
     ($($word:ty: $calls:ident;)*) => {$(
         impl Border for $word {

@@ -138,6 +138,7 @@ pub(crate) mod sealed {
     }
 }
 
+/// Makes these types integers of fields, with or without a sign.
 macro_rules! integers {
     ($kind:ident: $($integer:ty)*) => {$(
         impl Integer for $integer {

@@ -30,6 +30,7 @@ pub trait Word: Border + Copy + Debug + Eq + 'static {
     const BITS: usize;
 }
 
+/// Makes these types words.
 macro_rules! words {
     ($($word:ty)*) => {$(
         impl Word for $word {

@@ -27,9 +27,11 @@ pub fn copy_within<T: Word>(words: &mut [T], row: Span, start: u64, count: u64, 
     Ok(())
 }
 
-/// The truth tables of the boolean operations: bit 2a + b is the result for left bit a and right bit b.
+/// The truth table of `and`: bit 2a + b is the result for left bit a and right bit b.
 pub const AND: u8 = 0b1000;
+/// The same of `or`.
 pub const OR: u8 = 0b1110;
+/// The same of `xor`.
 pub const XOR: u8 = 0b0110;
 
 /// Makes each left bit, with the right bit beside it, what the truth table `operation` says. Right bits past its end are false.

@@ -12,6 +12,7 @@ pub trait Word: Copy + PartialEq {
     fn with_bit(self, position: u64, bit: bool) -> Self;
 }
 
+/// Makes these types words.
 macro_rules! word {
     ($($number:ty),+) => { $(
         impl Word for $number {

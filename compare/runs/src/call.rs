@@ -2,6 +2,7 @@
 
 use model::{refusals::*, AND, OR, XOR};
 
+/// Defines the calls with their names.
 macro_rules! calls {
     ($($call:ident $name:literal),+ $(,)?) => {
         /// An exported call, named without its width.
@@ -144,14 +145,14 @@ impl Call {
         )
     }
 
-    /// What it can be refused with, [`UNKNOWN_CODE`] among it.
+    /// What it can be refused with, [`NO_CODE`] among it.
     pub fn refusals(self) -> &'static [u8] {
         macro_rules! of_a_span_and {
-            ($($refusal:ident),*) => { &[TOO_MANY_WORDS, INDEX_TOO_LARGE, OUT_OF_BOUNDS, $($refusal,)* UNKNOWN_CODE] };
+            ($($refusal:ident),*) => { &[TOO_MANY_WORDS, INDEX_TOO_LARGE, OUT_OF_BOUNDS, $($refusal,)* NO_CODE] };
         }
         match self {
-            Call::Position | Call::Selector => &[INDEX_TOO_LARGE, UNKNOWN_CODE],
-            Call::Mask => &[INDEX_TOO_LARGE, NOT_BELOW, UNKNOWN_CODE],
+            Call::Position | Call::Selector => &[INDEX_TOO_LARGE, NO_CODE],
+            Call::Mask => &[INDEX_TOO_LARGE, NOT_BELOW, NO_CODE],
             Call::Split | Call::ReadBit | Call::WriteBit | Call::CopyWithin => of_a_span_and!(NOT_BELOW),
             Call::Load => of_a_span_and!(NO_SUCH_K, FIELD_LENGTH),
             Call::Store => of_a_span_and!(NO_SUCH_K, FIELD_LENGTH, NOT_AN_INTEGER),
@@ -173,4 +174,4 @@ pub const WIDTHS: [u64; 2] = [8, 64];
 pub const OPERATIONS: [u64; 3] = [AND as u64, OR as u64, XOR as u64];
 
 /// What is returned where an argument is no code of the interface. The rules do not know it.
-pub const UNKNOWN_CODE: u8 = 255;
+pub const NO_CODE: u8 = 255;

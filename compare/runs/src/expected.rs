@@ -5,7 +5,7 @@ use model::{End, Field, Order, Refusal, Sign, Significance, Span};
 
 use crate::{
     answer::Answer,
-    call::{Argument, Call, OPERATIONS, UNKNOWN_CODE, WIDTHS},
+    call::{Argument, Call, NO_CODE, OPERATIONS, WIDTHS},
     lent::Lent,
     request::Request,
 };
@@ -13,7 +13,7 @@ use crate::{
 /// The answer that a request is owed. The words lent become what they are owed to be.
 pub fn answer<T: Lent>(request: &Request<T>, words: &mut [T], other: &mut [T]) -> Answer {
     if request.call.arguments().iter().any(|&argument| !is_known(request, argument)) {
-        return Answer::Refused(UNKNOWN_CODE);
+        return Answer::Refused(NO_CODE);
     }
     let answer = match request.call {
         Call::Position | Call::Selector | Call::Mask | Call::Split => without_words(request),

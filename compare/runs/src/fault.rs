@@ -5,7 +5,7 @@ use model::{bit_of, refusals::*, set_bit_of, AND, MOST_WORDS};
 
 use crate::{
     answer::Answer,
-    call::{Argument::*, Call, UNKNOWN_CODE},
+    call::{Argument::*, Call, NO_CODE},
     expected::{self, span},
     judge::Outcome,
     lent::Lent,
@@ -18,8 +18,10 @@ const ACCEPTED: u8 = 0;
 /// Order, significance and sign of an unsigned Msb0 le field.
 const UNSIGNED_MSB0_LE: [u64; 3] = [model::Order::Msb0 as u64, model::Significance::Le as u64, model::Sign::Unsigned as u64];
 
+/// The code of a sign.
 const SIGNED: u64 = model::Sign::Signed as u64;
 
+/// Defines the faults and the list of them.
 macro_rules! faults {
     ($($fault:ident),+ $(,)?) => {
         /// A way to be wrong.
@@ -176,9 +178,9 @@ impl Fault {
                 let inside = end(Start) <= request[Length] && end(Destination) <= request[Length];
                 return if inside { ACCEPTED } else { NOT_BELOW };
             }
-            (Fault::UnknownCodesAfterNumbers, UNKNOWN_CODE) => {
+            (Fault::UnknownCodesAfterNumbers, NO_CODE) => {
                 let numbered = code_otherwise(request, make_codes_known);
-                return if numbered == ACCEPTED { UNKNOWN_CODE } else { numbered };
+                return if numbered == ACCEPTED { NO_CODE } else { numbered };
             }
             (Fault::StrictStoresTakeTheLowest, DOES_NOT_FIT) if request[Sign] == SIGNED && request[Below] == 1 => {
                 let lowest = (1 << (request[Length] - 1)) - 1;

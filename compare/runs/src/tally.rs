@@ -2,7 +2,7 @@
 
 use crate::{
     answer::Answer,
-    call::{Argument, Call, UNKNOWN_CODE},
+    call::{Argument, Call, NO_CODE},
     judge::Verdict,
     lent::Lent,
     request::Request,
@@ -36,7 +36,7 @@ pub struct Tally {
 }
 
 /// All that a call can be refused with, in the order in which it is counted.
-const REFUSALS: [u8; 11] = [1, 2, 3, 4, 5, 6, 7, 8, 9, 10, UNKNOWN_CODE];
+const REFUSALS: [u8; 11] = [1, 2, 3, 4, 5, 6, 7, 8, 9, 10, NO_CODE];
 
 /// Where a refusal is counted.
 fn refusal_place(code: u8) -> usize {

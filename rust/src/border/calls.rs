@@ -67,6 +67,7 @@ calls_on_words! {
 width!(u8, "stableply8_", on_u8, ON_U8);
 width!(u64, "stableply64_", on_u64, ON_U64);
 
+// The calls without lent words.
 unsafe extern "C" {
     pub fn stableply_position(width: u8, order: u8, index: usize, out: *mut u64) -> u8;
     pub fn stableply_selector(width: u8, order: u8, index: usize, out: *mut u64) -> u8;

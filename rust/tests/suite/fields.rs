@@ -26,8 +26,7 @@ fn bits<W: Sample>() {
 
 #[test]
 fn every_bit() {
-    bits::<u8>();
-    bits::<u64>();
+    at_every_width!(bits());
 }
 
 /// An integer type that whole numbers can be turned into.
@@ -75,28 +74,28 @@ fn fields<W: Sample, I: Whole>() {
     }
 }
 
+fn unsigned_fields<W: Sample>() {
+    fields::<W, u8>();
+    fields::<W, u16>();
+    fields::<W, u32>();
+    fields::<W, u64>();
+}
+
 #[test]
 fn every_field_of_unsigned_integers() {
-    fields::<u8, u8>();
-    fields::<u8, u16>();
-    fields::<u8, u32>();
-    fields::<u8, u64>();
-    fields::<u64, u8>();
-    fields::<u64, u16>();
-    fields::<u64, u32>();
-    fields::<u64, u64>();
+    at_every_width!(unsigned_fields());
+}
+
+fn signed_fields<W: Sample>() {
+    fields::<W, i8>();
+    fields::<W, i16>();
+    fields::<W, i32>();
+    fields::<W, i64>();
 }
 
 #[test]
 fn every_field_of_signed_integers() {
-    fields::<u8, i8>();
-    fields::<u8, i16>();
-    fields::<u8, i32>();
-    fields::<u8, i64>();
-    fields::<u64, i8>();
-    fields::<u64, i16>();
-    fields::<u64, i32>();
-    fields::<u64, i64>();
+    at_every_width!(signed_fields());
 }
 
 #[test]

@@ -33,6 +33,7 @@ macro_rules! write_everything {
     }};
 }
 
+/// What a second row holds at first.
 const OTHER: [u8; 4] = [0xB4, 0x6C, 0xF1, 0x5A];
 
 #[test]

@@ -23,8 +23,7 @@ fn positions_and_selectors<W: Sample>() {
 
 #[test]
 fn every_position_and_selector() {
-    positions_and_selectors::<u8>();
-    positions_and_selectors::<u64>();
+    at_every_width!(positions_and_selectors());
 }
 
 fn masks<W: Sample>() {
@@ -48,8 +47,7 @@ fn masks<W: Sample>() {
 
 #[test]
 fn every_mask() {
-    masks::<u8>();
-    masks::<u64>();
+    at_every_width!(masks());
 }
 
 fn splits<W: Sample>() {
@@ -75,6 +73,5 @@ fn splits<W: Sample>() {
 
 #[test]
 fn every_split() {
-    splits::<u8>();
-    splits::<u64>();
+    at_every_width!(splits());
 }

@@ -18,8 +18,7 @@ fn one_span<W: Word + Default>() {
 
 #[test]
 fn of_one_span_the_lowest_number() {
-    one_span::<u8>();
-    one_span::<u64>();
+    at_every_width!(one_span());
 }
 
 /// What the calls with two spans answer: copy_from, boolean, swap_with, equal. The rows are long enough to be refused 1.
@@ -62,8 +61,7 @@ fn two_spans<W: Word + Default>() {
 
 #[test]
 fn of_two_spans_the_first_ones_and_then_the_lowest_number() {
-    two_spans::<u8>();
-    two_spans::<u64>();
+    at_every_width!(two_spans());
 }
 
 fn fields<W: Word + Default>() {
@@ -96,8 +94,7 @@ fn fields<W: Word + Default>() {
 
 #[test]
 fn of_a_field_the_lowest_number() {
-    fields::<u8>();
-    fields::<u64>();
+    at_every_width!(fields());
 }
 
 /// A span that is refused is told before a place that would be.

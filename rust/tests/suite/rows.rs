@@ -36,8 +36,7 @@ fn copies<W: Sample>() {
 
 #[test]
 fn every_copy_between_rows() {
-    copies::<u8>();
-    copies::<u64>();
+    at_every_width!(copies());
 }
 
 fn swaps<W: Sample>() {
@@ -53,8 +52,7 @@ fn swaps<W: Sample>() {
 
 #[test]
 fn every_swap() {
-    swaps::<u8>();
-    swaps::<u64>();
+    at_every_width!(swaps());
 }
 
 fn booleans<W: Sample>(operation: Operation, truth_table: u8) {
@@ -71,8 +69,7 @@ fn booleans<W: Sample>(operation: Operation, truth_table: u8) {
 #[test]
 fn every_boolean() {
     for (operation, truth_table) in [(Operation::And, 0b1000), (Operation::Or, 0b1110), (Operation::Xor, 0b0110)] {
-        booleans::<u8>(operation, truth_table);
-        booleans::<u64>(operation, truth_table);
+        at_every_width!(booleans(operation, truth_table));
     }
 }
 
@@ -103,8 +100,7 @@ fn equalities<W: Sample>() {
 
 #[test]
 fn every_equality() {
-    equalities::<u8>();
-    equalities::<u64>();
+    at_every_width!(equalities());
 }
 
 fn copies_inside<W: Sample>() {
@@ -127,8 +123,7 @@ fn copies_inside<W: Sample>() {
 
 #[test]
 fn every_copy_inside() {
-    copies_inside::<u8>();
-    copies_inside::<u64>();
+    at_every_width!(copies_inside());
 }
 
 fn searches<W: Sample>() {
@@ -156,6 +151,5 @@ fn searches<W: Sample>() {
 
 #[test]
 fn every_search() {
-    searches::<u8>();
-    searches::<u64>();
+    at_every_width!(searches());
 }

@@ -17,8 +17,10 @@ pub enum Asked {
     All,
 }
 
+/// The searches.
 const SEARCHES: [Call; 4] = [Call::FirstOne, Call::LastOne, Call::FirstZero, Call::LastZero];
 
+/// The calls on lent words that are neither searches nor loads.
 const OTHERS: [Call; 9] = [
     Call::ReadBit,
     Call::WriteBit,

@@ -49,6 +49,7 @@ pub fn samples(run: &mut Run<u8>) -> (usize, usize) {
     (all.len(), differ)
 }
 
+/// The document's row.
 const ROW: [u8; 3] = [0xB4, 0x6C, 0xF1];
 
 const ORDERS: [model::Order; 2] = [Lsb0, Msb0];

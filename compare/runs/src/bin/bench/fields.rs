@@ -22,6 +22,9 @@ const FIELDS: usize = 1024;
 /// The words that they are taken from.
 pub const WORDS: usize = 8192;
 
+/// A field of 64 bits at an odd head lies in nine bytes.
+const MOST_WORDS_OF_A_FIELD: usize = 9;
+
 /// What is done to a field.
 #[derive(Clone, Copy, Debug, Eq, PartialEq)]
 pub enum Job {
@@ -35,7 +38,7 @@ fn places<T: Width>(order: Order, length: usize) -> Vec<Row> {
     let width = <T as Plain>::WIDTH as u64;
     let mut place = || Row {
         order,
-        word: random.upto(WORDS as u64 - 10) as usize,
+        word: random.upto((WORDS - MOST_WORDS_OF_A_FIELD) as u64 - 1) as usize,
         head: (2 * random.upto(width / 2 - 1) + 1) as usize,
         length,
     };

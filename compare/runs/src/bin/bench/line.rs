@@ -18,6 +18,7 @@ pub enum Part {
 }
 
 impl Part {
+    /// All of them, in the order in which they are shown.
     pub const ALL: [Part; 8] = [
         Part::Fields,
         Part::KnownFields,

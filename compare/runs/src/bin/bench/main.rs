@@ -48,7 +48,9 @@ fn main() -> ExitCode {
     ExitCode::SUCCESS
 }
 
+/// What the figures of docs/ are measured with.
 const FULL: Effort = Effort { passes: 8, rounds: 15, all_lengths: true };
+/// What shows that the benchmark runs.
 const QUICK: Effort = Effort { passes: 1, rounds: 5, all_lengths: false };
 
 /// Everything measured once.

@@ -21,8 +21,11 @@ use crate::{
 /// How much is measured.
 #[derive(Clone, Copy, PartialEq)]
 pub struct Effort {
+    /// How often everything is measured, of which the best times are kept.
     pub passes: usize,
+    /// How often each contestant is timed in a pass.
     pub rounds: usize,
+    /// Whether shorter rows than the longest are measured too.
     pub all_lengths: bool,
 }
 
@@ -229,6 +232,7 @@ fn across<T: Width>(lines: &mut Vec<Line>, effort: Effort, planned: Vec<Planned>
     }
 }
 
+/// The searches and their names.
 const SEARCHES: [(&str, Call); 4] = [
     ("first_one", Call::FirstOne),
     ("last_one", Call::LastOne),

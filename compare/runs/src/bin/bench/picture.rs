@@ -7,9 +7,13 @@ use crate::{
     line::{name, Line},
 };
 
+/// Where bars begin, left of which the jobs are named.
 const LEFT: f64 = 250.0;
+/// How long the longest bar is.
 const WIDE: f64 = 620.0;
+/// How high a bar is.
 const BAR: f64 = 7.0;
+/// What lies between the bars of two jobs.
 const GAP: f64 = 8.0;
 /// The rates at the axis' ends, in GB/s. The axis is logarithmic.
 const LEAST: f64 = 0.1;

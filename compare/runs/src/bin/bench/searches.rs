@@ -72,6 +72,7 @@ where
 }
 
 extern "C" {
+    /// C's.
     fn memchr(bytes: *const u8, byte: i32, count: usize) -> *const u8;
 }
 

@@ -56,7 +56,9 @@ pub type CopyWithin<T> = fn(&mut [T], Row, usize, usize, usize) -> u64;
 
 /// A word's type with both.
 pub trait Width: Lent + Plain {
+    /// Who calls the library.
     type Library: Calls<Self>;
+    /// Who calls plain Rust.
     type PlainRust: Calls<Self>;
 
     /// Fields by hand with every refusal, where that is written.
@@ -72,6 +74,7 @@ pub trait Width: Lent + Plain {
     fn known_stores(words: &mut [Self], places: &[usize], heads: &[usize], k: usize, value: u64);
 }
 
+/// Gives a word's type what `Width` asks for.
 macro_rules! width {
     ($word:ty, $loads:path, $stores:path, $checked:expr, $by_eight:expr) => {
         impl Width for $word {
@@ -120,18 +123,21 @@ pub fn done(code: u8) -> u64 {
     }
 }
 
+/// A call on one row, and what else it takes.
 macro_rules! one {
     ($name:path, $pointer:expr, $lent:expr, $row:expr $(, $rest:expr)*) => {
         unsafe { $name($pointer, $lent, $row.order as u8, $row.word, $row.head, $row.length $(, $rest)*) }
     };
 }
 
+/// A call on two rows, and what else it takes.
 macro_rules! two {
     ($name:path, $pointer:expr, $lent:expr, $row:expr, $second:expr, $second_lent:expr, $from:expr $(, $rest:expr)*) => {
         one!($name, $pointer, $lent, $row, $second, $second_lent, $from.order as u8, $from.word, $from.head, $from.length $(, $rest)*)
     };
 }
 
+/// Gives one of the two its calls on one type of word, from the module that has them.
 macro_rules! calls {
     ($whose:ty, $word:ty, $calls:path) => {
         const _: () = {

@@ -96,6 +96,7 @@ macro_rules! inside {
     };
 }
 
+/// All calls on one type of word.
 macro_rules! calls {
     ($word:ty) => {
         use super::*;

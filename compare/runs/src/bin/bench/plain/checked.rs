@@ -2,7 +2,7 @@
 //! without a proof. The usual request is seen first; what is refused is looked at again, row by row, out of the way.
 
 use model::refusals::*;
-use runs::call::UNKNOWN_CODE;
+use runs::call::NO_CODE;
 
 use super::{LE, LSB0, UNSIGNED};
 
@@ -14,7 +14,7 @@ const MOST_WORDS: usize = model::MOST_WORDS as usize;
 fn reason(lent: usize, word: usize, head: usize, length: usize, k: usize, codes: u8) -> u8 {
     let outside = word > lent || (lent - word).saturating_mul(64) < head.saturating_add(length);
     if codes > 1 {
-        UNKNOWN_CODE
+        NO_CODE
     } else if lent > MOST_WORDS {
         TOO_MANY_WORDS
     } else if head > 63 {

@@ -20,6 +20,7 @@ const UNSIGNED: u8 = model::Sign::Unsigned as u8;
 
 /// A word of plain Rust. Bits move along their indexes, in the order that `MSB0` says.
 pub trait Plain: Copy + Eq + Default + BitAnd<Output = Self> + BitOr<Output = Self> + BitXor<Output = Self> + 'static {
+    /// Its bits.
     const WIDTH: usize;
 
     /// Each bit `by` indexes nearer to index 0; `by` is below the width.
@@ -44,6 +45,7 @@ pub trait Plain: Copy + Eq + Default + BitAnd<Output = Self> + BitOr<Output = Se
     }
 }
 
+/// Makes these types words.
 macro_rules! plain {
     ($($word:ty),+) => { $(
         impl Plain for $word {
