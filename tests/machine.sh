@@ -2,12 +2,17 @@
 #
 # For the scripts that make or run x86-64 programs: the archives and programs that `rt` writes are for x86-64 alone. On another kind of machine
 # programs are compiled across, by Debian's cross compilers and its Rust, and run under an emulator on Debian's x86-64 libraries.
+#
+# What a command needs besides the kit is printed one to a line, as COMMAND-OR-FILE:PACKAGE: by needs_to_run for a program, by needs_to_test for
+# all tests.
 machine=$(uname -m)
 
 # What stands in the names of Debian's packages of Rust: in Debian 12 those without it are too old for the crates.
 web() { if apt-cache show rustc-web >/dev/null 2>&1; then echo -web; fi; }
+needs_of_rust() {
+    printf '%s\n' "/usr/bin/cargo:cargo$(web)" "/usr/bin/rustc:rustc$(web)" "/usr/bin/cargo-fmt:rustfmt$(web)" "/usr/bin/cargo-clippy:rust$(web)-clippy"
+}
 
-# What a command needs besides the kit, one to a line, as COMMAND-OR-FILE:PACKAGE: those of running a program, and those of all tests.
 if [ "$machine" = x86_64 ]; then
     # What stands before the names of the C compilers and of nm.
     cross=''
@@ -17,10 +22,13 @@ if [ "$machine" = x86_64 ]; then
     rustdoc_words=()
     # Runs an x86-64 program.
     run() { "$@"; }
+    # Whether a Rust is on the PATH, with all that the tests want of it. Debian's serves where none is.
+    has_rust() { rustdoc --version && cargo fmt --version && cargo clippy --version; } >/dev/null 2>&1
+    has_rust || PATH=/usr/bin:$PATH
     needs_to_run() { :; }
     needs_to_test() {
-        printf '%s\n' git:git shellcheck:shellcheck gcc:gcc g++:g++ nm:binutils valgrind:valgrind \
-            "cargo:cargo$(web)" "rustc:rustc$(web)" "cargo-fmt:rustfmt$(web)" "cargo-clippy:rust$(web)-clippy"
+        printf '%s\n' git:git shellcheck:shellcheck gcc:gcc g++:g++ nm:binutils valgrind:valgrind
+        has_rust || needs_of_rust
     }
 else
     cross=x86_64-linux-gnu-
@@ -31,9 +39,9 @@ else
     needs_to_test() {
         needs_to_run
         printf '%s\n' git:git shellcheck:shellcheck "${cross}gcc:gcc-x86-64-linux-gnu" "${cross}g++:g++-x86-64-linux-gnu" \
-            "${cross}nm:binutils-x86-64-linux-gnu" /usr/lib/x86_64-linux-gnu/libstdc++.so.6:libstdc++6:amd64 \
-            "/usr/bin/cargo:cargo$(web)" "/usr/bin/rustc:rustc$(web)" "/usr/bin/cargo-fmt:rustfmt$(web)" \
-            "/usr/bin/cargo-clippy:rust$(web)-clippy" "/usr/lib/rustlib/x86_64-unknown-linux-gnu/lib:libstd-rust$(web)-dev:amd64"
+            "${cross}nm:binutils-x86-64-linux-gnu" /usr/lib/x86_64-linux-gnu/libstdc++.so.6:libstdc++6:amd64
+        needs_of_rust
+        echo "/usr/lib/rustlib/x86_64-unknown-linux-gnu/lib:libstd-rust$(web)-dev:amd64"
     }
     # Another Rust that stands before Debian's need not have the library for x86-64.
     PATH=/usr/bin:$PATH

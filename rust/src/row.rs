@@ -52,7 +52,15 @@ pub trait BitRow: Lent<<Self as BitRow>::Word> {
     /// ```
     /// use stableply::{BitRow, Order, Span};
     ///
-    /// assert_eq!([0u8; 3].whole(Order::Msb0), Span::new(Order::Msb0, 0, 0, 24));
+    /// let mut row = [0u8; 3];
+    /// assert_eq!(row.whole(Order::Msb0), Span::new(Order::Msb0, 0, 0, 24));
+    /// row.write_bit(row.whole(Order::Msb0), 0, true)?;
+    ///
+    /// // A part of a row is a row too: name it, and ask it for its span.
+    /// let part = &mut row[1..];
+    /// part.write_bit(part.whole(Order::Msb0), 0, true)?;
+    /// assert_eq!(row, [0x80, 0x80, 0x00]);
+    /// # Ok::<(), stableply::Refusal>(())
     /// ```
     fn whole(&self, order: Order) -> Span {
         // A row whose bits a `usize` cannot count has too many words for any call.
