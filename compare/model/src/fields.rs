@@ -110,7 +110,7 @@ fn place<T: Word>(words: &mut [T], field: Field, value: i128) {
         before += piece.count;
         for j in 0..piece.count {
             let word = &mut words[piece.word];
-            *word = word.with_bit(piece.lowest + j, part >> j & 1 == 1);
+            *word = word.with_bit(piece.lowest + j, (part >> j) & 1 == 1);
         }
     }
 }

@@ -40,7 +40,7 @@ pub fn boolean<T: Word>(words: &mut [T], left: Span, right_words: &[T], right: S
     for i in 0..left.length {
         let a = bit_of(words, left, i);
         let b = i < right.length && bit_of(right_words, right, i);
-        let result = operation >> (2 * a as u8 + b as u8) & 1 == 1;
+        let result = (operation >> (2 * a as u8 + b as u8)) & 1 == 1;
         set_bit_of(words, left, i, result);
     }
     Ok(())

@@ -192,7 +192,7 @@ fn content_steps<T: Lent>(request: &Request<T>, steps: &mut Vec<Step>) {
         for (at, word) in words.iter().enumerate().filter(|(_, word)| word.number() != 0) {
             let number = word.number();
             steps.push(Step::Word { second, at, number: 0 });
-            let ones = (0..64).filter(|bit| number >> bit & 1 == 1);
+            let ones = (0..64).filter(|bit| (number >> bit) & 1 == 1);
             steps.extend(ones.map(|bit| Step::Word { second, at, number: number & !(1 << bit) }));
         }
     }

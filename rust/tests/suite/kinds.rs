@@ -86,7 +86,7 @@ fn rows_inside_other_types() -> Result<(), Refusal> {
     set_last(&mut trace.arrived)?;
     set_last(&mut trace.kept)?;
     set_last(&mut trace.kept[..1])?;
-    assert_eq!((trace.arrived, &trace.kept[..]), ([0, 1 | 1 << 63], &[0x80, 0x80][..]));
+    assert_eq!((trace.arrived, &trace.kept[..]), ([0, 1 | (1 << 63)], &[0x80, 0x80][..]));
     Ok(())
 }
 

@@ -55,9 +55,9 @@ pub fn mixed<W: Sample>(lent: usize, seed: u64) -> Vec<W> {
     let mut next = || {
         state = state.wrapping_add(0x9E37_79B9_7F4A_7C15);
         let mut bits = state;
-        bits = (bits ^ bits >> 30).wrapping_mul(0xBF58_476D_1CE4_E5B9);
-        bits = (bits ^ bits >> 27).wrapping_mul(0x94D0_49BB_1331_11EB);
-        W::of(bits ^ bits >> 31)
+        bits = (bits ^ (bits >> 30)).wrapping_mul(0xBF58_476D_1CE4_E5B9);
+        bits = (bits ^ (bits >> 27)).wrapping_mul(0x94D0_49BB_1331_11EB);
+        W::of(bits ^ (bits >> 31))
     };
     (0..lent).map(|_| next()).collect()
 }

@@ -89,8 +89,8 @@ field_call! {
                 _ => (first << head >> head, next >> (64 - over)),
             };
             match significance {
-                LE => b << room | a,
-                _ => a << over | b,
+                LE => (b << room) | a,
+                _ => (a << over) | b,
             }
         };
         *out = match sign {
@@ -118,7 +118,7 @@ field_call! {
         if head <= rest {
             let by = if order == LSB0 { head } else { rest - head };
             let (place, mask) = (words.add(word), u64::MAX >> rest << by);
-            *place ^= (*place ^ number << by) & mask;
+            *place ^= (*place ^ (number << by)) & mask;
             return 0;
         }
         if is_cut_off(lent, word, head) {
@@ -131,11 +131,11 @@ field_call! {
             _ => (number >> over, number),
         };
         if order == LSB0 {
-            *first ^= (*first ^ a << head) & u64::MAX << head;
-            *next ^= (*next ^ b) & u64::MAX >> (64 - over);
+            *first ^= (*first ^ (a << head)) & (u64::MAX << head);
+            *next ^= (*next ^ b) & (u64::MAX >> (64 - over));
         } else {
-            *first ^= (*first ^ a) & u64::MAX >> head;
-            *next ^= (*next ^ b << (64 - over)) & u64::MAX << (64 - over);
+            *first ^= (*first ^ a) & (u64::MAX >> head);
+            *next ^= (*next ^ (b << (64 - over))) & (u64::MAX << (64 - over));
         }
         0
     }
