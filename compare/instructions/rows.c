@@ -1,6 +1,8 @@
 /* Puts 256 random requests, of up to four words and a bit, to an exported call on single bits or rows, for count.sh to count.
  *
- *     rows CALL WIDTH ORDER      CALL: read_bit, write_bit, copy_from, copy_within, boolean (xor), swap, equal or a search; the rest as the C interface has them
+ *     rows CALL WIDTH ORDER
+ *
+ * CALL is read_bit, write_bit, copy_from, copy_within, boolean (xor), swap, equal or a search; the rest are as the C interface has them.
  */
 #include <stdlib.h>
 #include <string.h>

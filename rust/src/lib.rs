@@ -4,8 +4,8 @@
 //! is its safe face. No call panics, on any input: what cannot be done is answered with a [`Refusal`], and then nothing has
 //! changed.
 //!
-//! The calls are methods of [`BitRow`], which slices, arrays and vectors of `u8` and `u64` have. Each takes a [`Span`] that says
-//! which bits it works on; [`whole`](BitRow::whole) is the span of them all.
+//! The calls are methods of [`BitRow`], which slices, arrays and vectors of `u8` and `u64` have. Each takes a [`Span`] that
+//! says which bits it works on; [`whole`](BitRow::whole) is the span of them all.
 //!
 //! ```
 //! use stableply::{BitRow, Order, Refusal, Significance, Span};
@@ -34,8 +34,8 @@
 //! # The archive
 //!
 //! The crate links `libstableply.a`, for Linux on x86-64. The build looks for it in the folder that `STABLEPLY_LIB_DIR` names,
-//! else in the project's target/staticlib. Where it is not there, the build has the prover's command `rt` make it, or says what to
-//! run.
+//! else in the project's target/staticlib. Where it is not there, the build has the prover's command `rt` make it, or says what
+//! to run.
 //!
 //! # Features
 //!

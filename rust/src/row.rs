@@ -265,8 +265,8 @@ pub trait BitRow: Lent<<Self as BitRow>::Word> {
     ///
     /// # Errors
     ///
-    /// 1 to 3 for the span; [`NotBelow`](Refusal::NotBelow) (10) where `start` + `count` or `destination` + `count` is above its
-    /// length.
+    /// 1 to 3 for the span; [`NotBelow`](Refusal::NotBelow) (10) where `start` + `count` or `destination` + `count` is above
+    /// its length.
     ///
     /// ```
     /// use stableply::{BitRow, Order};

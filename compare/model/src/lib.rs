@@ -1,7 +1,9 @@
-//! The rules of Stableply (docs/RULES.md), one bit at a time: what the library is held to here, and the Rust crate in its tests.
+//! The rules of Stableply (docs/RULES.md), one bit at a time: what the library is held to here, and the Rust crate in its
+//! tests.
 //!
-//! Written from the rules alone: it shares no code with the library or with bitvec. Every function takes any arguments and gives
-//! either the one answer that the rules state or the number of the refusal. Sums are taken as whole numbers, 128 bits wide.
+//! Written from the rules alone: it shares no code with the library or with bitvec. Every function takes any arguments and
+//! gives either the one answer that the rules state or the number of the refusal. Sums are taken as whole numbers, 128 bits
+//! wide.
 
 mod fields;
 mod positions;

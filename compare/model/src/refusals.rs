@@ -1,5 +1,5 @@
-//! The numbers of refusal, and the checks that several calls share. A call names its checks in the order of their numbers, so the
-//! lowest is given.
+//! The numbers of refusal, and the checks that several calls share. A call names its checks in the order of their numbers, so
+//! the lowest is given.
 
 use crate::words::{Span, Word};
 

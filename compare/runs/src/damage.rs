@@ -80,7 +80,8 @@ fn out_of_bounds<T: Lent>(request: &mut Request<T>, random: &mut Random) {
     let width = if request.call.lends() { T::WIDTH } else { request[Width].max(1) };
     let before = request[word].saturating_mul(width).saturating_add(request[head]);
     let room = request.number(lent).saturating_mul(width).saturating_sub(before);
-    // Past the end by a bit or two; at or behind the last word; then numbers with which W * word, or a sum with it, passes 2^64.
+    // Past the end by a bit or two; at or behind the last word; then numbers with which W * word, or a sum with it, passes
+    // 2^64.
     match random.upto(5) {
         0 => request[length] = room.saturating_add(1 + random.upto(2)),
         1 => request[word] = request.number(lent).saturating_add(random.upto(2)),

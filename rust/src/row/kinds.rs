@@ -1,7 +1,8 @@
 //! Which types are rows: slices, arrays and vectors of words.
 //!
-//! Arrays and vectors could borrow the calls of slices. They have them themselves, so that `row.write_bit(row.whole(order), 3, true)`
-//! compiles: a row that is first made a slice is borrowed for writing before the arguments are worked out.
+//! Arrays and vectors could borrow the calls of slices. They have them themselves, so that a call may ask its own row for its
+//! span, as in `row.write_bit(row.whole(order), 3, true)`: a row that is first made a slice is borrowed for writing before the
+//! arguments are worked out.
 
 use crate::{BitRow, Word};
 

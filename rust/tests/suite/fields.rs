@@ -34,7 +34,8 @@ trait Whole: Integer + TryFrom<i128, Error: Debug> + PartialEq + Debug {}
 
 impl<I: Integer + TryFrom<i128, Error: Debug> + PartialEq + Debug> Whole for I {}
 
-/// Two numbers of the kind, with ones and zeros in all their parts, each the other's complement. Of signed ones one is negative.
+/// Two numbers of the kind, with ones and zeros in all their parts, each the other's complement. Of signed ones one is
+/// negative.
 fn patterned(kind: IntegerKind) -> [i128; 2] {
     let signed = kind == IntegerKind::signed(kind.k());
     [0x9E37_79B9_7F4A_7C15, !0x9E37_79B9_7F4A_7C15].map(|bits: i128| {

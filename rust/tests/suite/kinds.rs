@@ -1,11 +1,12 @@
-//! Every call that writes takes the whole span of its own row as an argument, on arrays, vectors and slices: what compiles here must.
+//! What has to compile on arrays, vectors and slices alike: every call that writes, with the whole span of its own row as an
+//! argument.
 
 use stableply::Order::{Lsb0, Msb0};
 use stableply::Significance::{Be, Le};
 use stableply::{BitRow, IntegerKind, Operation, Refusal, Span};
 
-/// Each writing call on a row of four bytes, told its span by the row itself. The row is not named as a type, so that the same lines
-/// are tried on each kind.
+/// Each writing call on a row of four bytes, told its span by the row itself. The row is not named as a type, so that the same
+/// lines are tried on each kind.
 macro_rules! write_everything {
     ($row:expr, $other:expr) => {{
         $row.write_bit($row.whole(Lsb0), 3, true)?;
