@@ -27,7 +27,7 @@ if [ "$machine" = x86_64 ]; then
     has_rust || PATH=/usr/bin:$PATH
     needs_to_run() { :; }
     needs_to_test() {
-        printf '%s\n' git:git shellcheck:shellcheck gcc:gcc g++:g++ nm:binutils valgrind:valgrind
+        printf '%s\n' git:git python3:python3 shellcheck:shellcheck gcc:gcc g++:g++ nm:binutils valgrind:valgrind
         has_rust || needs_of_rust
     }
 else
@@ -38,7 +38,7 @@ else
     needs_to_run() { printf '%s\n' qemu-x86_64:qemu-user /lib64/ld-linux-x86-64.so.2:libc6:amd64; }
     needs_to_test() {
         needs_to_run
-        printf '%s\n' git:git shellcheck:shellcheck "${cross}gcc:gcc-x86-64-linux-gnu" "${cross}g++:g++-x86-64-linux-gnu" \
+        printf '%s\n' git:git python3:python3 shellcheck:shellcheck "${cross}gcc:gcc-x86-64-linux-gnu" "${cross}g++:g++-x86-64-linux-gnu" \
             "${cross}nm:binutils-x86-64-linux-gnu" /usr/lib/x86_64-linux-gnu/libstdc++.so.6:libstdc++6:amd64
         needs_of_rust
         echo "/usr/lib/rustlib/x86_64-unknown-linux-gnu/lib:libstd-rust$(web)-dev:amd64"

@@ -42,5 +42,5 @@ done < <(git ls-files --cached --others --exclude-standard | grep -E '(^|/)Cargo
 # Those that others read in are seen with them.
 while read -r script; do
     try "shellcheck on $script" shellcheck --check-sourced "$script"
-done < <(git ls-files --cached --others --exclude-standard | xargs grep -lE '^#!.*[ /](ba)?sh$')
+done < <(git ls-files --cached --others --exclude-standard | xargs awk 'FNR == 1 && /^#!.*[ \/](ba)?sh$/ { print FILENAME }')
 say_count
