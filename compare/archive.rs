@@ -1,5 +1,5 @@
-//! Links the archive that a crate's `links` names from the project's target/staticlib, where `rt staticlib` puts it, or from the
-//! folder that STABLEPLY_LIB_DIR names (seen from compare/, where it is relative).
+//! Links the archive that a crate's `links` names from the project's target/staticlib, where `rt staticlib` puts it, or from
+//! the folder that STABLEPLY_LIB_DIR names (seen from compare/, where it is relative).
 
 use std::{env, path::Path};
 

@@ -1,6 +1,8 @@
 #!/usr/bin/env bash
-# Makes target/native/libNAME.a for an Arm machine, for timing and for long runs there: `rt staticlib NAME` with a compiler that keeps the module it is given, and that
-# module compiled once more, by the same compiler at the same level, for the machine at hand. Such an archive is no product: what is shipped is for x86-64.
+# Makes target/native/libNAME.a for an Arm machine, for timing and for long runs there. Such an archive is no product: what is shipped is for x86-64.
+#
+# It runs `rt staticlib NAME` with a compiler that keeps the module it is given, and compiles that module once more for the machine at hand, by the
+# same compiler at the same level.
 #
 #     compare/native.sh [NAME..]     stableply and known unless said otherwise
 #
@@ -36,7 +38,8 @@ mkdir -p target/native
 [ $# -gt 0 ] || set -- stableply known
 for crate; do
     RATTLE_HOME=$room/kit rt staticlib "$crate" | tail -n 1
-    "$kit/$tools/bin/clang" --target="$machine-unknown-linux-gnu" -ffunction-sections -fdata-sections -Wno-override-module -c -x ir "$room/module.bc" -o "$room/$crate.o" -fPIC -O3 2>/dev/null
+    "$kit/$tools/bin/clang" --target="$machine-unknown-linux-gnu" -O3 -fPIC -ffunction-sections -fdata-sections -Wno-override-module \
+        -c -x ir "$room/module.bc" -o "$room/$crate.o" 2>/dev/null
     rm -f "target/native/lib$crate.a"
     "$kit/$tools/bin/llvm-ar" rcs "target/native/lib$crate.a" "$room/$crate.o"
 done

@@ -3,10 +3,12 @@
 use std::env;
 use std::ffi::OsString;
 use std::io::ErrorKind;
-use std::path::{Path, PathBuf, absolute};
-use std::process::{Command, exit};
+use std::path::{absolute, Path, PathBuf};
+use std::process::{exit, Command};
 
+/// What is linked.
 const ARCHIVE: &str = "libstableply.a";
+/// Where a user names the folder that holds it.
 const FOLDER_VARIABLE: &str = "STABLEPLY_LIB_DIR";
 
 fn main() {

@@ -1,4 +1,4 @@
-#!/bin/sh
+#!/usr/bin/env bash
 # Holds the header, the C example and the archive to each other: all of it compiles as C11 and as C++17 without a warning, the
 # example prints what is stored beside it, the canary test finds nothing wrong, and valgrind, on x86-64, sees no error in either.
 #

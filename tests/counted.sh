@@ -1,3 +1,5 @@
+# shellcheck shell=bash
+#
 # For the test scripts beside it, which read it in: finds the archive, knows the machine, counts what is tried, and says the count last.
 #
 # The archive's folder is the script's first argument; if not given, STABLEPLY_LIB_DIR, or else target/staticlib.

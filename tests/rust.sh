@@ -1,4 +1,4 @@
-#!/bin/sh
+#!/usr/bin/env bash
 # Builds, tests and documents the Rust crate without a network, holds its example to the output stored for the C one, and tries
 # what its build script does where the archive is there, is not, or can be made.
 #
@@ -24,7 +24,7 @@ try 'example prints what is stored for the C one' example_prints
 # page_runs PAGE: the page's programs in Rust run.
 page_runs() {
     awk '$0 == "```rust" { on = 1 } on { print } $0 == "```" { on = 0 }' "$1" >"$work/programs.md"
-    rustdoc --test --edition 2021 $rustdoc_words "$work/programs.md" --extern stableply="$work/strict/${cargo_folder}debug/libstableply.rlib"
+    rustdoc --test --edition 2021 "${rustdoc_words[@]}" "$work/programs.md" --extern stableply="$work/strict/${cargo_folder}debug/libstableply.rlib"
 }
 try_pages rust page_runs
 
@@ -36,7 +36,7 @@ project() {
         ln -s "$(command -v "$command")" "$project/bin/$command"
     done
     echo 'stableply' >"$project/crates.txt"
-    (cd "$root" && tar -cf - --exclude=rust/target rust) | tar -xf - -C "$project"
+    (cd "$root" && tar -cf - --exclude=rust/target rust compare/model) | tar -xf - -C "$project"
 }
 # built: builds the case's crate; what it says is left in a file.
 built() { (cd "$project/rust" && PATH=$project/bin:/usr/bin:/bin cargo build --offline --locked >"$project/said" 2>&1); }

@@ -1,6 +1,7 @@
 #!/usr/bin/env bash
-# How many instructions an exported call takes, of fields and of bits and rows, by callgrind, or on another machine than x86-64 by the emulator: the same on
-# every run, whatever else the machine does. Wants valgrind or qemu-x86_64, a C compiler for x86-64, and the library that `rt staticlib stableply` makes.
+# How many instructions an exported call takes, of fields and of bits and rows, by callgrind, or on another machine than x86-64 by the emulator:
+# the same on every run, whatever else the machine does. Wants valgrind or qemu-x86_64, a C compiler for x86-64, and the library that
+# `rt staticlib stableply` makes.
 #
 #     compare/instructions/count.sh [FOLDER]     FOLDER holds libstableply.a; target/staticlib unless said otherwise
 set -eu
@@ -57,9 +58,9 @@ for width in 8 64; do
         for k in 8 64; do
             for significance in 0 1; do
                 for sign in 0 1; do
-                    stored=-
+                    loaded=$(count fields 1024 load $width $order $k $significance $sign) stored=-
                     [ "$sign" = 1 ] || stored=$(count fields 1024 store $width $order $k $significance $sign)
-                    echo "| $width | ${orders[order]} | ${signs[sign]}$k ${significances[significance]} | $(count fields 1024 load $width $order $k $significance $sign) | $stored |"
+                    echo "| $width | ${orders[order]} | ${signs[sign]}$k ${significances[significance]} | $loaded | $stored |"
                 done
             done
         done

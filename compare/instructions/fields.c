@@ -8,7 +8,8 @@
 #include "random.h"
 #include "stableply.h"
 
-enum { FIELDS = 1024, WORDS = 8192 };
+/* How many fields there are, in how many words; a field of 64 bits at an odd head lies in nine bytes. */
+enum { FIELDS = 1024, WORDS = 8192, MOST_WORDS_OF_A_FIELD = 9 };
 
 static uint64_t wide[WORDS];
 static uint8_t narrow[WORDS];
@@ -40,7 +41,7 @@ int main(int count, char **given) {
     uint8_t order = atoi(given[3]), significance = atoi(given[5]), sign = atoi(given[6]);
     size_t k = atoi(given[4]);
     for (size_t i = 0; i < FIELDS; i++) {
-        word[i] = below(WORDS - 10);
+        word[i] = below(WORDS - MOST_WORDS_OF_A_FIELD - 1);
         head[i] = 2 * below(width / 2) + 1;
     }
     unsigned refused;

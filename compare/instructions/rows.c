@@ -1,6 +1,8 @@
 /* Puts 256 random requests, of up to four words and a bit, to an exported call on single bits or rows, for count.sh to count.
  *
- *     rows CALL WIDTH ORDER      CALL: read_bit, write_bit, copy_from, copy_within, boolean (xor), swap, equal or a search; the rest as the C interface has them
+ *     rows CALL WIDTH ORDER
+ *
+ * CALL is read_bit, write_bit, copy_from, copy_within, boolean (xor), swap, equal or a search; the rest are as the C interface has them.
  */
 #include <stdlib.h>
 #include <string.h>
@@ -8,6 +10,7 @@
 #include "random.h"
 #include "stableply.h"
 
+/* How many requests there are, to rows of how many words. */
 enum { REQUESTS = 256, WORDS = 512 };
 
 static uint64_t wide[WORDS], wide_other[WORDS];
@@ -44,6 +47,7 @@ static size_t word[REQUESTS], head[REQUESTS], length[REQUESTS], other_word[REQUE
 LOOPS(64, wide, wide_other)
 LOOPS(8, narrow, narrow_other)
 
+/* The calls by their names, with the loop at each width. */
 static const struct {
     const char *name;
     unsigned (*wide)(uint8_t), (*narrow)(uint8_t);
@@ -62,7 +66,7 @@ int main(int count, char **given) {
     uint64_t passed = strstr(given[1], "_one") ? 0 : UINT64_MAX;
     int search = strstr(given[1], "first_") || strstr(given[1], "last_");
     for (size_t i = 0; i < WORDS; i++) {
-        below(2);
+        below(2); /* each step of the generator makes a new state: a random word */
         wide[i] = search && i % 5 ? passed : state;
         narrow[i] = wide[i];
         below(2);

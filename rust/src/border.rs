@@ -2,8 +2,8 @@
 //!
 //! # Why each use is sound
 //!
-//! The archive's calls return on all arguments, keep nothing of what they are handed, and touch no other memory. What they ask of
-//! a caller stands in `include/stableply.h` under "The caller's part". It is met in the same way by every wrapper here:
+//! The archive's calls return on all arguments, keep nothing of what they are handed, and touch no other memory. What they ask
+//! of a caller stands in `include/stableply.h` under "The caller's part". It is met in the same way by every wrapper here:
 //!
 //! - *Aligned, not null, valid for its count*: words are handed over as the pointer and the length of one slice, and an out
 //!   value as a reference to a local that holds a number. `usize` is C's `size_t`.
@@ -13,15 +13,15 @@
 //!
 //! # Why nobody sees 255
 //!
-//! 255 is answered exactly where an argument is no code: a width that is not 8 or 64; an order, a significance, a sign, a `below`
-//! or a bit above 1; an operation that is none. No number of a user reaches such an argument. The width is that of one of the two
-//! word types, the bit is a `bool`, and the rest are written out below in `order_code`, `significance_code`, `sign_code`,
-//! `operation_code` and `given`. What remains is 0 and the numbers of refusal.
+//! 255 is answered exactly where an argument is no code: a width that is not 8 or 64; an order, a significance, a sign, a
+//! `below` or a bit above 1; an operation that is none. No number of a user reaches such an argument. The width is that of one
+//! of the two word types, the bit is a `bool`, and the rest are written out below in `order_code`, `significance_code`,
+//! `sign_code`, `operation_code` and `given`. What remains is 0 and the numbers of refusal.
 
 use crate::{IntegerKind, Operation, Order, Refusal, Sign, Significance, Span, Word};
 
 mod calls;
-use calls::{Calls, stableply_mask, stableply_position, stableply_selector, stableply_split};
+use calls::{stableply_mask, stableply_position, stableply_selector, stableply_split, Calls};
 
 #[cfg(not(target_pointer_width = "64"))]
 compile_error!("the archive of stableply is for machines whose size_t has 64 bits");
@@ -35,20 +35,22 @@ pub trait Border: Sized {
     fn narrowed(number: u64) -> Self;
 }
 
-impl Border for u8 {
-    const CALLS: Calls<u8> = calls::ON_U8;
+/// Gives word types their calls: a width is one line.
+macro_rules! widths {
+    ($($word:ty: $calls:ident;)*) => {$(
+        impl Border for $word {
+            const CALLS: Calls<$word> = calls::$calls;
 
-    fn narrowed(number: u64) -> u8 {
-        number as u8
-    }
+            fn narrowed(number: u64) -> $word {
+                number as $word
+            }
+        }
+    )*};
 }
 
-impl Border for u64 {
-    const CALLS: Calls<u64> = calls::ON_U64;
-
-    fn narrowed(number: u64) -> u64 {
-        number
-    }
+widths! {
+    u8: ON_U8;
+    u64: ON_U64;
 }
 
 /// The archive's code of an order.

@@ -104,13 +104,26 @@ impl IntegerKind {
 /// type can be one.
 ///
 /// ```
-/// use stableply::{Integer, IntegerKind};
+/// use stableply::{BitRow, Integer, Order, Refusal, Significance, Span};
 ///
-/// assert_eq!(<i16 as Integer>::KIND, IntegerKind::signed(16));
-/// assert_eq!(<usize as Integer>::KIND, IntegerKind::unsigned(64));
+/// /// The number of the row's first `length` bits, as any integer that the caller asks for.
+/// fn first<I: Integer>(row: &[u64], length: usize) -> Result<I, Refusal> {
+///     row.load(Span::new(Order::Lsb0, 0, 0, length), Significance::Le)
+/// }
+///
+/// assert_eq!(first::<u8>(&[0xFFC], 4)?, 12);
+/// assert_eq!(first::<i32>(&[0xFFC], 12)?, -4);
+/// # Ok::<(), Refusal>(())
 /// ```
 pub trait Integer: sealed::Integer {
     /// The type's K and sign.
+    ///
+    /// ```
+    /// use stableply::{Integer, Sign};
+    ///
+    /// assert_eq!(<i16 as Integer>::KIND.k(), 16);
+    /// assert_eq!(<i16 as Integer>::KIND.sign(), Sign::Signed);
+    /// ```
     const KIND: IntegerKind;
 }
 
@@ -125,6 +138,7 @@ pub(crate) mod sealed {
     }
 }
 
+/// Makes these types integers of fields, with or without a sign.
 macro_rules! integers {
     ($kind:ident: $($integer:ty)*) => {$(
         impl Integer for $integer {

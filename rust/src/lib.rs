@@ -4,8 +4,8 @@
 //! is its safe face. No call panics, on any input: what cannot be done is answered with a [`Refusal`], and then nothing has
 //! changed.
 //!
-//! The calls are methods of [`BitRow`], which slices of `u8` and `u64` have. Each takes a [`Span`] that says which bits it works
-//! on.
+//! The calls are methods of [`BitRow`], which slices, arrays and vectors of `u8` and `u64` have. Each takes a [`Span`] that
+//! says which bits it works on; [`whole`](BitRow::whole) is the span of them all.
 //!
 //! ```
 //! use stableply::{BitRow, Order, Refusal, Significance, Span};
@@ -30,9 +30,22 @@
 //! assert_eq!(record.store_strict(DECISION, Significance::Le, 40u8), Err(Refusal::DoesNotFit));
 //! # Ok::<(), Refusal>(())
 //! ```
+//!
+//! # The archive
+//!
+//! The crate links `libstableply.a`, for Linux on x86-64. The build looks for it in the folder that `STABLEPLY_LIB_DIR` names,
+//! else in the project's target/staticlib. Where it is not there, the build has the prover's command `rt` make it, or says what
+//! to run.
+//!
+//! # Features
+//!
+//! `alloc`, on by default, gives the calls to `Vec`. Without it the crate asks for no allocator.
 
 #![no_std]
 #![deny(missing_docs, unsafe_code, unsafe_op_in_unsafe_fn)]
+
+#[cfg(feature = "alloc")]
+extern crate alloc;
 
 #[allow(unsafe_code)]
 mod border;

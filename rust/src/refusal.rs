@@ -44,6 +44,7 @@ pub enum Refusal {
 }
 
 impl Refusal {
+    /// All of them, in the order of their numbers.
     const ALL: [Refusal; 10] = [
         Refusal::TooManyWords,
         Refusal::IndexTooLarge,
@@ -78,6 +79,7 @@ impl Refusal {
         Refusal::ALL.into_iter().find(|refusal| refusal.number() == number)
     }
 
+    /// What is wrong, for a reader who does not know the numbers.
     fn sentence(self) -> &'static str {
         match self {
             Refusal::TooManyWords => "more than 65,536 words are lent",

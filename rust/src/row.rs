@@ -1,10 +1,15 @@
 use crate::border;
 use crate::{Integer, IntegerKind, Operation, Order, Refusal, Significance, Span, Word};
 
-/// The calls on a row of bits: a slice of `u8` or of `u64`. No other type can be one.
+mod kinds;
+use kinds::Lent;
+
+/// The calls on a row of bits: a slice, an array or a `Vec` of `u8` or of `u64`. No other type can be one.
 ///
 /// Each call takes the [`Span`] that it works on; with two spans, each stands beside its row. A call that is accepted changes
 /// the bits that it names and no others; one that is refused changes nothing.
+///
+/// A second row is a slice of the same words. `&other` and `&mut other` serve for an array and for a `Vec` too.
 ///
 /// # Errors
 ///
@@ -15,21 +20,52 @@ use crate::{Integer, IntegerKind, Operation, Order, Refusal, Significance, Span,
 /// ```
 /// use stableply::{BitRow, Order, Refusal, Span};
 ///
-/// let row = vec![0u64; 4]; // a Vec, an array and a slice all have the calls
-/// assert_eq!(row.first_one(row.whole(Order::Lsb0))?, None);
+/// let mut row = vec![0u64; 4]; // a Vec, an array and a slice all have the calls
+/// row.write_bit(row.whole(Order::Lsb0), 200, true)?;
+/// assert_eq!(row.first_one(row.whole(Order::Lsb0))?, Some(200));
+/// assert_eq!(row[1..].first_one(row[1..].whole(Order::Lsb0))?, Some(136));
+///
 /// assert_eq!(row.first_one(Span::new(Order::Lsb0, 0, 64, 1)), Err(Refusal::IndexTooLarge));
 /// assert_eq!(row.first_one(Span::new(Order::Lsb0, 3, 63, 2)), Err(Refusal::OutOfBounds));
 /// # Ok::<(), Refusal>(())
 /// ```
-pub trait BitRow: sealed::BitRow {
+pub trait BitRow: Lent<<Self as BitRow>::Word> {
+    /// The type of the row's words.
+    ///
+    /// ```
+    /// use stableply::{BitRow, Order, Refusal};
+    ///
+    /// /// Makes all bits those of a second row, whatever kind of row the first is.
+    /// fn become_like<R: BitRow + ?Sized>(row: &mut R, other: &[R::Word]) -> Result<(), Refusal> {
+    ///     row.copy_from(row.whole(Order::Lsb0), other, other.whole(Order::Lsb0))
+    /// }
+    ///
+    /// let mut row = [0u8; 2];
+    /// become_like(&mut row, &[0xB4, 0x6C])?;
+    /// assert_eq!(row, [0xB4, 0x6C]);
+    /// # Ok::<(), Refusal>(())
+    /// ```
+    type Word: Word;
+
     /// The span of all the row's bits.
     ///
     /// ```
     /// use stableply::{BitRow, Order, Span};
     ///
-    /// assert_eq!([0u8; 3].whole(Order::Msb0), Span::new(Order::Msb0, 0, 0, 24));
+    /// let mut row = [0u8; 3];
+    /// assert_eq!(row.whole(Order::Msb0), Span::new(Order::Msb0, 0, 0, 24));
+    /// row.write_bit(row.whole(Order::Msb0), 0, true)?;
+    ///
+    /// // A part of a row is a row too: name it, and ask it for its span.
+    /// let part = &mut row[1..];
+    /// part.write_bit(part.whole(Order::Msb0), 0, true)?;
+    /// assert_eq!(row, [0x80, 0x80, 0x00]);
+    /// # Ok::<(), stableply::Refusal>(())
     /// ```
-    fn whole(&self, order: Order) -> Span;
+    fn whole(&self, order: Order) -> Span {
+        // A row whose bits a `usize` cannot count has too many words for any call.
+        Span::new(order, 0, 0, self.words().len().saturating_mul(Self::Word::BITS))
+    }
 
     /// Bit `index` of the span.
     ///
@@ -47,7 +83,9 @@ pub trait BitRow: sealed::BitRow {
     /// assert_eq!(row.read_bit(span, 4), Err(Refusal::NotBelow));
     /// # Ok::<(), Refusal>(())
     /// ```
-    fn read_bit(&self, span: Span, index: usize) -> Result<bool, Refusal>;
+    fn read_bit(&self, span: Span, index: usize) -> Result<bool, Refusal> {
+        border::read_bit(self.words(), span, index)
+    }
 
     /// Sets bit `index` of the span to `bit`.
     ///
@@ -61,9 +99,13 @@ pub trait BitRow: sealed::BitRow {
     /// let mut row = [0u8; 2];
     /// row.write_bit(Span::new(Order::Lsb0, 0, 6, 4), 3, true)?;
     /// assert_eq!(row, [0, 0b10]);
+    /// row.write_bit(row.whole(Order::Lsb0), 3, true)?;
+    /// assert_eq!(row, [0b1000, 0b10]);
     /// # Ok::<(), stableply::Refusal>(())
     /// ```
-    fn write_bit(&mut self, span: Span, index: usize, bit: bool) -> Result<(), Refusal>;
+    fn write_bit(&mut self, span: Span, index: usize, bit: bool) -> Result<(), Refusal> {
+        border::write_bit(self.words_mut(), span, index, bit)
+    }
 
     /// The number that a field holds, as a Rust integer; a signed one with the field's top bit as its sign.
     ///
@@ -141,7 +183,9 @@ pub trait BitRow: sealed::BitRow {
     /// assert_eq!(row.load_number(span, Significance::Le, IntegerKind::signed(8))?, -2);
     /// # Ok::<(), stableply::Refusal>(())
     /// ```
-    fn load_number(&self, span: Span, significance: Significance, kind: IntegerKind) -> Result<i128, Refusal>;
+    fn load_number(&self, span: Span, significance: Significance, kind: IntegerKind) -> Result<i128, Refusal> {
+        border::load(self.words(), span, significance, kind)
+    }
 
     /// Stores any whole number that is an integer of the kind named, as [`store`](BitRow::store) does.
     ///
@@ -161,7 +205,9 @@ pub trait BitRow: sealed::BitRow {
     /// assert_eq!(refused, Err(Refusal::NotAnInteger));
     /// # Ok::<(), Refusal>(())
     /// ```
-    fn store_number(&mut self, span: Span, significance: Significance, kind: IntegerKind, number: i128) -> Result<(), Refusal>;
+    fn store_number(&mut self, span: Span, significance: Significance, kind: IntegerKind, number: i128) -> Result<(), Refusal> {
+        border::store(self.words_mut(), span, significance, kind, number)
+    }
 
     /// Stores as [`store_number`](BitRow::store_number) does, but only a number that fits, as
     /// [`store_strict`](BitRow::store_strict) says.
@@ -186,7 +232,9 @@ pub trait BitRow: sealed::BitRow {
         significance: Significance,
         kind: IntegerKind,
         number: i128,
-    ) -> Result<(), Refusal>;
+    ) -> Result<(), Refusal> {
+        border::store_strict(self.words_mut(), span, significance, kind, number)
+    }
 
     /// Copies from another row: bit i of the span becomes bit i of the source's span.
     ///
@@ -202,28 +250,35 @@ pub trait BitRow: sealed::BitRow {
     /// let source = [0b1011_0100u8];
     /// row.copy_from(Span::new(Order::Lsb0, 0, 6, 4), &source, Span::new(Order::Lsb0, 0, 2, 4))?;
     /// assert_eq!(row, [0b0100_0000, 0b11]);
+    ///
+    /// let source = vec![0xB4, 0x6C];
+    /// row.copy_from(row.whole(Order::Lsb0), &source, source.whole(Order::Lsb0))?;
+    /// assert_eq!(row, [0xB4, 0x6C]);
     /// # Ok::<(), stableply::Refusal>(())
     /// ```
-    fn copy_from(&mut self, span: Span, source: &Self, source_span: Span) -> Result<(), Refusal>;
+    fn copy_from(&mut self, span: Span, source: &[Self::Word], source_span: Span) -> Result<(), Refusal> {
+        border::copy_from(self.words_mut(), span, source, source_span)
+    }
 
     /// Copies inside the span: its bit `destination` + i becomes its old bit `start` + i, for all i below `count` at once. The
-    /// two ranges may overlap.
+    /// two ranges may overlap. (In C it is `copy_within`. Slices have a method of that name, which moves whole words.)
     ///
     /// # Errors
     ///
-    /// 1 to 3 for the span; [`NotBelow`](Refusal::NotBelow) (10) where `start` + `count` or `destination` + `count` is above its
-    /// length.
+    /// 1 to 3 for the span; [`NotBelow`](Refusal::NotBelow) (10) where `start` + `count` or `destination` + `count` is above
+    /// its length.
     ///
     /// ```
     /// use stableply::{BitRow, Order};
     ///
     /// let mut row = [0xB4u8];
-    /// let all = row.whole(Order::Lsb0);
-    /// row.copy_inside(all, 0, 5, 2)?;
+    /// row.copy_inside(row.whole(Order::Lsb0), 0, 5, 2)?;
     /// assert_eq!(row, [0xD0]);
     /// # Ok::<(), stableply::Refusal>(())
     /// ```
-    fn copy_inside(&mut self, span: Span, start: usize, count: usize, destination: usize) -> Result<(), Refusal>;
+    fn copy_inside(&mut self, span: Span, start: usize, count: usize, destination: usize) -> Result<(), Refusal> {
+        border::copy_within(self.words_mut(), span, start, count, destination)
+    }
 
     /// Combines the span with the right row's, bit by bit, into this row. Right bits past the end of theirs count as 0, and
     /// those past the end of this span are ignored.
@@ -236,16 +291,20 @@ pub trait BitRow: sealed::BitRow {
     /// use stableply::{BitRow, Operation, Order, Span};
     ///
     /// let mut row = [0xB4u8];
-    /// let all = row.whole(Order::Lsb0);
-    /// row.boolean(all, &[0x0F], Span::new(Order::Lsb0, 0, 0, 4), Operation::Xor)?;
+    /// let right = [0x0Fu8];
+    /// let four = Span::new(Order::Lsb0, 0, 0, 4);
+    /// row.boolean(row.whole(Order::Lsb0), &right, four, Operation::Xor)?;
     /// assert_eq!(row, [0xBB]);
-    /// row.boolean(all, &[0x0F], Span::new(Order::Lsb0, 0, 0, 4), Operation::And)?;
+    /// row.boolean(row.whole(Order::Lsb0), &right, four, Operation::And)?; // `and` clears what lies past the right bits
     /// assert_eq!(row, [0x0B]);
     /// # Ok::<(), stableply::Refusal>(())
     /// ```
-    fn boolean(&mut self, span: Span, right: &Self, right_span: Span, operation: Operation) -> Result<(), Refusal>;
+    fn boolean(&mut self, span: Span, right: &[Self::Word], right_span: Span, operation: Operation) -> Result<(), Refusal> {
+        border::boolean(self.words_mut(), span, right, right_span, operation)
+    }
 
-    /// Swaps the bits of the span with those of the other row's.
+    /// Swaps the bits of the span with those of the other row's. (In C it is `swap`. Slices have a method of that name, which
+    /// swaps two words.)
     ///
     /// # Errors
     ///
@@ -258,9 +317,17 @@ pub trait BitRow: sealed::BitRow {
     /// let (mut row, mut other) = ([0xB4u8], [0x00u8, 0x00]);
     /// row.swap_with(Span::new(Order::Msb0, 0, 0, 4), &mut other, Span::new(Order::Msb0, 0, 6, 4))?;
     /// assert_eq!((row, other), ([0x04], [0x02, 0xC0]));
+    ///
+    /// // `&mut other` borrows the other row for the whole call, so its span is named before.
+    /// let mut third = vec![0x11, 0x22];
+    /// let all = third.whole(Order::Msb0);
+    /// other.swap_with(other.whole(Order::Msb0), &mut third, all)?;
+    /// assert_eq!((other, third), ([0x11, 0x22], vec![0x02, 0xC0]));
     /// # Ok::<(), stableply::Refusal>(())
     /// ```
-    fn swap_with(&mut self, span: Span, other: &mut Self, other_span: Span) -> Result<(), Refusal>;
+    fn swap_with(&mut self, span: Span, other: &mut [Self::Word], other_span: Span) -> Result<(), Refusal> {
+        border::swap(self.words_mut(), span, other, other_span)
+    }
 
     /// Whether the two spans have the same length and the same bits. The other row may be this one.
     ///
@@ -278,7 +345,9 @@ pub trait BitRow: sealed::BitRow {
     /// assert!(!row.equal(low, &row, row.whole(Order::Lsb0))?);
     /// # Ok::<(), stableply::Refusal>(())
     /// ```
-    fn equal(&self, span: Span, other: &Self, other_span: Span) -> Result<bool, Refusal>;
+    fn equal(&self, span: Span, other: &[Self::Word], other_span: Span) -> Result<bool, Refusal> {
+        border::equal(self.words(), span, other, other_span)
+    }
 
     /// The smallest index of a 1, counted from the span's start, or `None` exactly where there is none.
     ///
@@ -294,7 +363,9 @@ pub trait BitRow: sealed::BitRow {
     /// assert_eq!(row.first_one(row.whole(Order::Msb0))?, Some(0));
     /// # Ok::<(), stableply::Refusal>(())
     /// ```
-    fn first_one(&self, span: Span) -> Result<Option<usize>, Refusal>;
+    fn first_one(&self, span: Span) -> Result<Option<usize>, Refusal> {
+        border::first_one(self.words(), span)
+    }
 
     /// The largest index of a 1, counted from the span's start, or `None` exactly where there is none.
     ///
@@ -310,7 +381,9 @@ pub trait BitRow: sealed::BitRow {
     /// assert_eq!(row.last_one(row.whole(Order::Msb0))?, Some(5));
     /// # Ok::<(), stableply::Refusal>(())
     /// ```
-    fn last_one(&self, span: Span) -> Result<Option<usize>, Refusal>;
+    fn last_one(&self, span: Span) -> Result<Option<usize>, Refusal> {
+        border::last_one(self.words(), span)
+    }
 
     /// The smallest index of a 0, counted from the span's start, or `None` exactly where there is none.
     ///
@@ -326,7 +399,9 @@ pub trait BitRow: sealed::BitRow {
     /// assert_eq!(row.first_zero(row.whole(Order::Msb0))?, Some(1));
     /// # Ok::<(), stableply::Refusal>(())
     /// ```
-    fn first_zero(&self, span: Span) -> Result<Option<usize>, Refusal>;
+    fn first_zero(&self, span: Span) -> Result<Option<usize>, Refusal> {
+        border::first_zero(self.words(), span)
+    }
 
     /// The largest index of a 0, counted from the span's start, or `None` exactly where there is none.
     ///
@@ -342,81 +417,7 @@ pub trait BitRow: sealed::BitRow {
     /// assert_eq!(row.last_zero(row.whole(Order::Msb0))?, Some(7));
     /// # Ok::<(), stableply::Refusal>(())
     /// ```
-    fn last_zero(&self, span: Span) -> Result<Option<usize>, Refusal>;
-}
-
-mod sealed {
-    /// Keeps other types from being rows.
-    pub trait BitRow {}
-
-    impl<W: crate::Word> BitRow for [W] {}
-}
-
-impl<W: Word> BitRow for [W] {
-    // A row whose bits a `usize` cannot count has too many words for any call.
-    fn whole(&self, order: Order) -> Span {
-        Span::new(order, 0, 0, self.len().saturating_mul(W::BITS))
-    }
-
-    fn read_bit(&self, span: Span, index: usize) -> Result<bool, Refusal> {
-        border::read_bit(self, span, index)
-    }
-
-    fn write_bit(&mut self, span: Span, index: usize, bit: bool) -> Result<(), Refusal> {
-        border::write_bit(self, span, index, bit)
-    }
-
-    fn load_number(&self, span: Span, significance: Significance, kind: IntegerKind) -> Result<i128, Refusal> {
-        border::load(self, span, significance, kind)
-    }
-
-    fn store_number(&mut self, span: Span, significance: Significance, kind: IntegerKind, number: i128) -> Result<(), Refusal> {
-        border::store(self, span, significance, kind, number)
-    }
-
-    fn store_number_strict(
-        &mut self,
-        span: Span,
-        significance: Significance,
-        kind: IntegerKind,
-        number: i128,
-    ) -> Result<(), Refusal> {
-        border::store_strict(self, span, significance, kind, number)
-    }
-
-    fn copy_from(&mut self, span: Span, source: &Self, source_span: Span) -> Result<(), Refusal> {
-        border::copy_from(self, span, source, source_span)
-    }
-
-    fn copy_inside(&mut self, span: Span, start: usize, count: usize, destination: usize) -> Result<(), Refusal> {
-        border::copy_within(self, span, start, count, destination)
-    }
-
-    fn boolean(&mut self, span: Span, right: &Self, right_span: Span, operation: Operation) -> Result<(), Refusal> {
-        border::boolean(self, span, right, right_span, operation)
-    }
-
-    fn swap_with(&mut self, span: Span, other: &mut Self, other_span: Span) -> Result<(), Refusal> {
-        border::swap(self, span, other, other_span)
-    }
-
-    fn equal(&self, span: Span, other: &Self, other_span: Span) -> Result<bool, Refusal> {
-        border::equal(self, span, other, other_span)
-    }
-
-    fn first_one(&self, span: Span) -> Result<Option<usize>, Refusal> {
-        border::first_one(self, span)
-    }
-
-    fn last_one(&self, span: Span) -> Result<Option<usize>, Refusal> {
-        border::last_one(self, span)
-    }
-
-    fn first_zero(&self, span: Span) -> Result<Option<usize>, Refusal> {
-        border::first_zero(self, span)
-    }
-
     fn last_zero(&self, span: Span) -> Result<Option<usize>, Refusal> {
-        border::last_zero(self, span)
+        border::last_zero(self.words(), span)
     }
 }

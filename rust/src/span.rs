@@ -100,10 +100,19 @@ impl Span {
     /// ```
     /// use stableply::{BitRow, Order, Span};
     ///
-    /// let row = [0u8; 4];
-    /// let (root, children) = row.whole(Order::Lsb0).split_at::<u8>(row.len(), 1)?;
-    /// assert_eq!(root, Span::new(Order::Lsb0, 0, 0, 1));
-    /// assert_eq!(children, Span::new(Order::Lsb0, 0, 1, 31));
+    /// let row = [0b0110_0001u8, 0b1000_0000];
+    /// let all = row.whole(Order::Lsb0);
+    /// let (first, rest) = all.split_at::<u8>(row.len(), 1)?;
+    /// assert_eq!(first, Span::new(Order::Lsb0, 0, 0, 1));
+    /// assert_eq!(rest, Span::new(Order::Lsb0, 0, 1, 15));
+    ///
+    /// // The indexes of all ones: after each one that is found, the search goes on in the rest.
+    /// let (mut ones, mut rest) = (Vec::new(), all);
+    /// while let Some(index) = row.first_one(rest)? {
+    ///     ones.push(all.length() - rest.length() + index);
+    ///     (_, rest) = rest.split_at::<u8>(row.len(), index + 1)?;
+    /// }
+    /// assert_eq!(ones, [0, 5, 6, 15]);
     /// # Ok::<(), stableply::Refusal>(())
     /// ```
     pub fn split_at<W: Word>(self, lent: usize, place: usize) -> Result<(Span, Span), Refusal> {

@@ -7,20 +7,36 @@ use crate::border::Border;
 /// W stands for [`BITS`](Word::BITS) in all the rules.
 ///
 /// ```
-/// use stableply::Word;
+/// use stableply::{BitRow, Order, Refusal, Word};
 ///
-/// assert_eq!(<u8 as Word>::BITS, 8);
-/// assert_eq!(<u64 as Word>::BITS, 64);
+/// /// How many bits stand before the first 1, whatever the words.
+/// fn leading_zeros<W: Word>(row: &[W]) -> Result<usize, Refusal> {
+///     Ok(row.first_one(row.whole(Order::Msb0))?.unwrap_or(row.len() * W::BITS))
+/// }
+///
+/// assert_eq!(leading_zeros(&[0x00u8, 0x2F])?, 10);
+/// assert_eq!(leading_zeros(&[0u64, 0])?, 128);
+/// # Ok::<(), Refusal>(())
 /// ```
 pub trait Word: Border + Copy + Debug + Eq + 'static {
     /// W, the number of bits in a word.
+    ///
+    /// ```
+    /// use stableply::Word;
+    ///
+    /// assert_eq!(<u8 as Word>::BITS, 8);
+    /// assert_eq!(<u64 as Word>::BITS, 64);
+    /// ```
     const BITS: usize;
 }
 
-impl Word for u8 {
-    const BITS: usize = u8::BITS as usize;
+/// Makes these types words.
+macro_rules! words {
+    ($($word:ty)*) => {$(
+        impl Word for $word {
+            const BITS: usize = <$word>::BITS as usize;
+        }
+    )*};
 }
 
-impl Word for u64 {
-    const BITS: usize = u64::BITS as usize;
-}
+words!(u8 u64);

@@ -11,6 +11,7 @@
 
 unsigned guard;
 
+/* The generator xorshift64*, which makes the same numbers on every run. */
 static uint64_t state = 0x9E3779B97F4A7C15u;
 
 uint64_t any(void)
@@ -31,32 +32,38 @@ uint64_t up_to(uint64_t last)
     return last == UINT64_MAX ? any() : below(last + 1);
 }
 
-/* The answers that a call can give, and how often each was given at each width. */
+/* The answers that a call can give, up to END, and how often each was given at each width. */
 struct call {
     const char *name;
     int answers[10];
     unsigned long seen[2][256];
 };
+enum { END = -1 };
+
+/* What every call can answer, and what every call with a span can be refused with. */
+#define ANY STABLEPLY_ACCEPTED, STABLEPLY_NO_CODE
+#define SPAN STABLEPLY_TOO_MANY_WORDS, STABLEPLY_INDEX_TOO_LARGE, STABLEPLY_OUT_OF_BOUNDS
+#define FIELD SPAN, STABLEPLY_NO_SUCH_K, STABLEPLY_FIELD_LENGTH
 
 static struct call calls[CALLS] = {
-    [POSITION] = {"position", {0, 2, 255, -1}, {{0}}},
-    [SELECTOR] = {"selector", {0, 2, 255, -1}, {{0}}},
-    [MASK] = {"mask", {0, 2, 10, 255, -1}, {{0}}},
-    [SPLIT] = {"split", {0, 1, 2, 3, 10, 255, -1}, {{0}}},
-    [READ_BIT] = {"read_bit", {0, 1, 2, 3, 10, 255, -1}, {{0}}},
-    [WRITE_BIT] = {"write_bit", {0, 1, 2, 3, 10, 255, -1}, {{0}}},
-    [LOAD] = {"load", {0, 1, 2, 3, 4, 5, 255, -1}, {{0}}},
-    [STORE] = {"store", {0, 1, 2, 3, 4, 5, 8, 255, -1}, {{0}}},
-    [STORE_STRICT] = {"store_strict", {0, 1, 2, 3, 4, 5, 8, 9, 255, -1}, {{0}}},
-    [COPY_FROM] = {"copy_from", {0, 1, 2, 3, 6, 7, 255, -1}, {{0}}},
-    [COPY_WITHIN] = {"copy_within", {0, 1, 2, 3, 10, 255, -1}, {{0}}},
-    [BOOLEAN] = {"boolean", {0, 1, 2, 3, 6, 255, -1}, {{0}}},
-    [SWAP] = {"swap", {0, 1, 2, 3, 6, 7, 255, -1}, {{0}}},
-    [EQUAL] = {"equal", {0, 1, 2, 3, 6, 255, -1}, {{0}}},
-    [FIRST_ONE] = {"first_one", {0, 1, 2, 3, 255, -1}, {{0}}},
-    [LAST_ONE] = {"last_one", {0, 1, 2, 3, 255, -1}, {{0}}},
-    [FIRST_ZERO] = {"first_zero", {0, 1, 2, 3, 255, -1}, {{0}}},
-    [LAST_ZERO] = {"last_zero", {0, 1, 2, 3, 255, -1}, {{0}}},
+    [POSITION] = {"position", {ANY, STABLEPLY_INDEX_TOO_LARGE, END}, {{0}}},
+    [SELECTOR] = {"selector", {ANY, STABLEPLY_INDEX_TOO_LARGE, END}, {{0}}},
+    [MASK] = {"mask", {ANY, STABLEPLY_INDEX_TOO_LARGE, STABLEPLY_NOT_BELOW, END}, {{0}}},
+    [SPLIT] = {"split", {ANY, SPAN, STABLEPLY_NOT_BELOW, END}, {{0}}},
+    [READ_BIT] = {"read_bit", {ANY, SPAN, STABLEPLY_NOT_BELOW, END}, {{0}}},
+    [WRITE_BIT] = {"write_bit", {ANY, SPAN, STABLEPLY_NOT_BELOW, END}, {{0}}},
+    [LOAD] = {"load", {ANY, FIELD, END}, {{0}}},
+    [STORE] = {"store", {ANY, FIELD, STABLEPLY_NOT_AN_INTEGER, END}, {{0}}},
+    [STORE_STRICT] = {"store_strict", {ANY, FIELD, STABLEPLY_NOT_AN_INTEGER, STABLEPLY_DOES_NOT_FIT, END}, {{0}}},
+    [COPY_FROM] = {"copy_from", {ANY, SPAN, STABLEPLY_ORDERS_DIFFER, STABLEPLY_LENGTHS_DIFFER, END}, {{0}}},
+    [COPY_WITHIN] = {"copy_within", {ANY, SPAN, STABLEPLY_NOT_BELOW, END}, {{0}}},
+    [BOOLEAN] = {"boolean", {ANY, SPAN, STABLEPLY_ORDERS_DIFFER, END}, {{0}}},
+    [SWAP] = {"swap", {ANY, SPAN, STABLEPLY_ORDERS_DIFFER, STABLEPLY_LENGTHS_DIFFER, END}, {{0}}},
+    [EQUAL] = {"equal", {ANY, SPAN, STABLEPLY_ORDERS_DIFFER, END}, {{0}}},
+    [FIRST_ONE] = {"first_one", {ANY, SPAN, END}, {{0}}},
+    [LAST_ONE] = {"last_one", {ANY, SPAN, END}, {{0}}},
+    [FIRST_ZERO] = {"first_zero", {ANY, SPAN, END}, {{0}}},
+    [LAST_ZERO] = {"last_zero", {ANY, SPAN, END}, {{0}}},
 };
 
 void wrong(enum call_name call, unsigned width, const char *what)
@@ -113,7 +120,7 @@ uint8_t some_code(uint64_t damaged_one_in)
 /* Sizes near 0, near a word's and a row's ends, near 2^64, and where W times the number passes 2^64. */
 size_t some_size(void)
 {
-    static const size_t bases[] = {0, 7, 8, 63, 64, 65536, SIZE_MAX / 64, SIZE_MAX / 8, SIZE_MAX / 2, SIZE_MAX - 64, SIZE_MAX - 2};
+    static const size_t bases[] = {0, 7, 8, 63, 64, STABLEPLY_MOST_WORDS, SIZE_MAX / 64, SIZE_MAX / 8, SIZE_MAX / 2, SIZE_MAX - 64, SIZE_MAX - 2};
     return below(4) == 0 ? (size_t)any() : bases[below(sizeof bases / sizeof *bases)] + below(3);
 }
 
@@ -123,6 +130,7 @@ struct span some_span(unsigned width, size_t lent, size_t longest)
     size_t start = up_to(bits);
     size_t room = bits - start;
     struct span span = {some_code(24), start / width, start % width, up_to(room < longest ? room : longest)};
+    /* Heads, words and lengths past their limits by little and by much; sums that pass 2^64; and half of the time none of these. */
     switch (below(20)) {
     case 0: span.head = width + below(3); break;
     case 1: span.head = some_size(); break;
@@ -140,17 +148,17 @@ struct span some_span(unsigned width, size_t lent, size_t longest)
 
 uint8_t span_refusal(unsigned width, size_t lent, struct span span)
 {
-    if (lent > 65536) {
-        return 1;
+    if (lent > STABLEPLY_MOST_WORDS) {
+        return STABLEPLY_TOO_MANY_WORDS;
     }
     if (span.head >= width) {
-        return 2;
+        return STABLEPLY_INDEX_TOO_LARGE;
     }
     if (span.word > lent) {
-        return 3;
+        return STABLEPLY_OUT_OF_BOUNDS;
     }
     size_t room = width * (lent - span.word);
-    return span.head > room || span.length > room - span.head ? 3 : 0;
+    return span.head > room || span.length > room - span.head ? STABLEPLY_OUT_OF_BOUNDS : STABLEPLY_ACCEPTED;
 }
 
 unsigned weight(unsigned width, struct span span, unsigned significance, size_t i)
@@ -161,8 +169,8 @@ unsigned weight(unsigned width, struct span span, unsigned significance, size_t 
     if (end > span.length) {
         end = span.length;
     }
-    size_t in_piece = span.order == 0 ? i - first : end - 1 - i;
-    return (unsigned)(in_piece + (significance == 0 ? first : span.length - end));
+    size_t in_piece = span.order == STABLEPLY_LSB0 ? i - first : end - 1 - i;
+    return (unsigned)(in_piece + (significance == STABLEPLY_LE ? first : span.length - end));
 }
 
 /* Every answer of every call was seen at both widths, and no other. */
@@ -171,7 +179,7 @@ static int all_seen(void)
     int complete = 1;
     for (unsigned c = 0; c < CALLS; c++) {
         for (unsigned wide = 0; wide < 2; wide++) {
-            for (const int *answer = calls[c].answers; *answer >= 0; answer++) {
+            for (const int *answer = calls[c].answers; *answer != END; answer++) {
                 if (calls[c].seen[wide][*answer] == 0) {
                     printf("canaries: %s, width %u: never answered %d\n", calls[c].name, wide ? 64 : 8, *answer);
                     complete = 0;

@@ -8,11 +8,13 @@
 
 #include "stableply.h"
 
+/* The calls, by their names without the width. */
 enum call_name {
     POSITION, SELECTOR, MASK, SPLIT, READ_BIT, WRITE_BIT, LOAD, STORE, STORE_STRICT, COPY_FROM, COPY_WITHIN, BOOLEAN, SWAP, EQUAL,
     FIRST_ONE, LAST_ONE, FIRST_ZERO, LAST_ZERO, CALLS
 };
 
+/* A span of a row, perhaps one that is refused. */
 struct span {
     uint8_t order;
     size_t word, head, length;
@@ -49,10 +51,14 @@ struct out {
     uint64_t before, value, after, old_before, old_value, old_after;
 };
 struct out out_new(void);
+
+/* Ends the test unless the out value is as expected, or as it was where nothing is to be written, between whole canaries. */
 void out_check(const struct out *out, enum call_name call, unsigned width, int written, uint64_t expected);
 
 /* The first byte of an out value, where a call leaves one byte; the seven beside it are canaries too. */
 uint8_t *out_byte(struct out *out);
+
+/* The same check of an out value of one byte. */
 void out_byte_check(const struct out *out, enum call_name call, unsigned width, int written, uint8_t expected);
 
 /* The rules: the refusal of a span, 0 where there is none; the exponent of bit i of a field. */

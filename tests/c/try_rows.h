@@ -3,8 +3,8 @@
 /* The refusals that all calls with two spans share. */
 static uint8_t refusal_of_two(const struct row *left, const struct row *right)
 {
-    if (left->span.order > 1 || right->span.order > 1) {
-        return 255;
+    if (left->span.order > STABLEPLY_MSB0 || right->span.order > STABLEPLY_MSB0) {
+        return STABLEPLY_NO_CODE;
     }
     if (refusal_of(left) != 0) {
         return refusal_of(left);
@@ -12,7 +12,7 @@ static uint8_t refusal_of_two(const struct row *left, const struct row *right)
     if (refusal_of(right) != 0) {
         return refusal_of(right);
     }
-    return left->span.order != right->span.order ? 6 : 0;
+    return left->span.order != right->span.order ? STABLEPLY_ORDERS_DIFFER : STABLEPLY_ACCEPTED;
 }
 
 /* A second row, whose span is mostly as long as the first's and of its order. */
@@ -28,12 +28,13 @@ static struct row row_beside(const struct row *left)
     return right;
 }
 
+/* One request to copy_from. */
 static void try_copy_from(void)
 {
     struct row row = row_new(40 * WIDTH), source = row_beside(&row);
     uint8_t expected = refusal_of_two(&row, &source);
 
-    expected = expected == 0 && row.span.length != source.span.length ? 7 : expected;
+    expected = expected == 0 && row.span.length != source.span.length ? STABLEPLY_LENGTHS_DIFFER : expected;
     for (size_t i = 0; expected == 0 && i < row.span.length; i++) {
         put(model(&row), row.span, i, get(model(&source), source.span, i));
     }
@@ -44,6 +45,7 @@ static void try_copy_from(void)
     row_end(&source, COPY_FROM);
 }
 
+/* One request to copy_within. */
 static void try_copy_within(void)
 {
     struct row row = row_new(40 * WIDTH);
@@ -51,7 +53,8 @@ static void try_copy_within(void)
     size_t room = row.span.length > last ? row.span.length - last : 0;
     size_t count = below(8) == 0 ? some_size() : up_to(room + 1);
     int inside = last <= row.span.length && count <= row.span.length - last;
-    uint8_t refusal = refusal_of(&row), expected = row.span.order > 1 ? 255 : refusal != 0 ? refusal : inside ? 0 : 10;
+    uint8_t refusal = refusal_of(&row);
+    uint8_t expected = refusal != 0 ? refusal : inside ? STABLEPLY_ACCEPTED : STABLEPLY_NOT_BELOW;
 
     for (size_t i = 0; expected == 0 && i < count; i++) {
         put(model(&row), row.span, destination + i, get(words(&row), row.span, start + i));
@@ -61,13 +64,14 @@ static void try_copy_within(void)
     row_end(&row, COPY_WITHIN);
 }
 
+/* One request to boolean. */
 static void try_boolean(void)
 {
     static const uint8_t operations[] = {STABLEPLY_AND, STABLEPLY_OR, STABLEPLY_XOR};
     struct row row = row_new(40 * WIDTH), right = row_beside(&row);
     uint8_t operation = below(12) == 0 ? (uint8_t)any() : operations[below(3)];
-    int known = operation == 8 || operation == 14 || operation == 6;
-    uint8_t expected = known ? refusal_of_two(&row, &right) : 255;
+    int known = memchr(operations, operation, sizeof operations) != NULL;
+    uint8_t expected = known ? refusal_of_two(&row, &right) : STABLEPLY_NO_CODE;
 
     for (size_t i = 0; expected == 0 && i < row.span.length; i++) {
         int a = get(words(&row), row.span, i), b = i < right.span.length ? get(words(&right), right.span, i) : 0;
@@ -80,12 +84,13 @@ static void try_boolean(void)
     row_end(&right, BOOLEAN);
 }
 
+/* One request to swap. */
 static void try_swap(void)
 {
     struct row left = row_new(40 * WIDTH), right = row_beside(&left);
     uint8_t expected = refusal_of_two(&left, &right);
 
-    expected = expected == 0 && left.span.length != right.span.length ? 7 : expected;
+    expected = expected == 0 && left.span.length != right.span.length ? STABLEPLY_LENGTHS_DIFFER : expected;
     for (size_t i = 0; expected == 0 && i < left.span.length; i++) {
         put(model(&left), left.span, i, get(words(&right), right.span, i));
         put(model(&right), right.span, i, get(words(&left), left.span, i));
@@ -131,28 +136,38 @@ static void try_equal(void)
     row_end(&right, EQUAL);
 }
 
-/* The four searches, on one row: for a bit that is 0 or 1, from the first index or from the last. */
+/* A search: its name, its call, whether it begins at the last index, and the bit that it looks for. */
+struct search {
+    enum call_name name;
+    uint8_t (*call)(const WORD *, size_t, uint8_t, size_t, size_t, size_t, uint8_t *, size_t *);
+    int from_last, bit;
+};
+
+/* One request to each of the four searches, on one row. */
 static void try_searches(void)
 {
-    static uint8_t (*const searches[4])(const WORD *, size_t, uint8_t, size_t, size_t, size_t, uint8_t *, size_t *) = {
-        CALL(first_one), CALL(last_one), CALL(first_zero), CALL(last_zero)};
-    static const enum call_name names[4] = {FIRST_ONE, LAST_ONE, FIRST_ZERO, LAST_ZERO};
+    static const struct search searches[] = {
+        {FIRST_ONE, CALL(first_one), 0, 1},
+        {LAST_ONE, CALL(last_one), 1, 1},
+        {FIRST_ZERO, CALL(first_zero), 0, 0},
+        {LAST_ZERO, CALL(last_zero), 1, 0},
+    };
     struct row row = row_new(SIZE_MAX);
-    uint8_t refusal = refusal_of(&row), expected = row.span.order > 1 ? 255 : refusal;
+    uint8_t expected = refusal_of(&row);
 
-    for (unsigned search = 0; search < 4; search++) {
+    for (const struct search *search = searches; search < searches + sizeof searches / sizeof *searches; search++) {
         struct out found = out_new(), at = out_new();
         size_t looked = 0, index = 0;
         uint8_t there = 0;
         while (expected == 0 && !there && looked < row.span.length) {
-            index = search % 2 == 0 ? looked : row.span.length - 1 - looked;
-            there = get(model(&row), row.span, index) == (search < 2);
+            index = search->from_last ? row.span.length - 1 - looked : looked;
+            there = get(model(&row), row.span, index) == search->bit;
             looked++;
         }
-        answered(names[search], WIDTH,
-                 searches[search](words(&row), row.lent, ARGUMENTS(row.span), out_byte(&found), &at.value), expected);
-        out_byte_check(&found, names[search], WIDTH, expected == 0, there);
-        out_check(&at, names[search], WIDTH, expected == 0 && there, index);
+        answered(search->name, WIDTH,
+                 search->call(words(&row), row.lent, ARGUMENTS(row.span), out_byte(&found), &at.value), expected);
+        out_byte_check(&found, search->name, WIDTH, expected == 0, there);
+        out_check(&at, search->name, WIDTH, expected == 0 && there, index);
     }
     row_end(&row, FIRST_ONE);
 }

@@ -9,17 +9,19 @@ struct row {
     struct span span;
 };
 
+/* The bytes of the lent words and of the canaries beside them. */
 static size_t row_bytes(const struct row *row)
 {
     return (row->lent + 2 * guard) * sizeof(WORD);
 }
 
-/* The lent words; what they should hold. */
+/* The lent words. */
 static WORD *words(const struct row *row)
 {
     return row->all + guard;
 }
 
+/* What the lent words should hold after the call. */
 static WORD *model(const struct row *row)
 {
     return row->expected + guard;
@@ -29,8 +31,8 @@ static WORD *model(const struct row *row)
 static struct row row_new(size_t longest)
 {
     uint64_t rare = below(40);
-    struct row row = {NULL, NULL, rare == 0 ? 65536 : rare == 1 ? 65537 : below(12), {0, 0, 0, 0}};
-    unsigned style = (unsigned)below(4);
+    struct row row = {NULL, NULL, rare < 2 ? STABLEPLY_MOST_WORDS + rare : below(12), {0, 0, 0, 0}};
+    enum { ONES, ZEROS, RANDOM, SPARSE } style = below(4);
 
     row.span = some_span(WIDTH, row.lent, longest);
     row.all = malloc(row_bytes(&row) == 0 ? 1 : row_bytes(&row));
@@ -38,9 +40,11 @@ static struct row row_new(size_t longest)
     if (row.all == NULL || row.expected == NULL) {
         abort();
     }
-    memset(row.all, style == 0 ? 0xFF : 0, row_bytes(&row));
-    for (size_t i = 0; style > 1 && i < row.lent + 2 * guard; i += style == 2 ? 1 : 1 + below(3 * row.lent / 2 + 1)) {
-        row.all[i] = (WORD)any();
+    memset(row.all, style == ONES ? 0xFF : 0, row_bytes(&row));
+    if (style == RANDOM || style == SPARSE) {
+        for (size_t i = 0; i < row.lent + 2 * guard; i += style == RANDOM ? 1 : 1 + below(3 * row.lent / 2 + 1)) {
+            row.all[i] = (WORD)any();
+        }
     }
     for (size_t i = 0; i < guard; i++) {
         row.all[i] = (WORD)any();
@@ -50,7 +54,7 @@ static struct row row_new(size_t longest)
     return row;
 }
 
-/* Every lent word and every canary holds what it should. */
+/* Ends the test unless every lent word and every canary holds what it should; gives the row back. */
 static void row_end(struct row *row, enum call_name call)
 {
     if (memcmp(row->all, row->expected, row_bytes(row)) != 0) {
@@ -60,23 +64,26 @@ static void row_end(struct row *row, enum call_name call)
     free(row->expected);
 }
 
+/* The rules: bit i of a span. */
 static int get(const WORD *at, struct span span, size_t i)
 {
     size_t t = span.head + i, index = t % WIDTH;
-    return (int)(at[span.word + t / WIDTH] >> (span.order == 0 ? index : WIDTH - 1 - index) & 1);
+    return (int)(at[span.word + t / WIDTH] >> (span.order == STABLEPLY_LSB0 ? index : WIDTH - 1 - index) & 1);
 }
 
+/* The rules: bit i of a span becomes this one. */
 static void put(WORD *at, struct span span, size_t i, int bit)
 {
     size_t t = span.head + i, index = t % WIDTH;
-    WORD selector = (WORD)((WORD)1 << (span.order == 0 ? index : WIDTH - 1 - index));
+    WORD selector = (WORD)((WORD)1 << (span.order == STABLEPLY_LSB0 ? index : WIDTH - 1 - index));
     WORD *word = &at[span.word + t / WIDTH];
     *word = (WORD)(bit ? *word | selector : *word & ~selector);
 }
 
+/* The refusal of a row's span, an order that is none among it; 0 where there is none. */
 static uint8_t refusal_of(const struct row *row)
 {
-    return span_refusal(WIDTH, row->lent, row->span);
+    return row->span.order > STABLEPLY_MSB0 ? STABLEPLY_NO_CODE : span_refusal(WIDTH, row->lent, row->span);
 }
 
 /* Most places are inside the span, some just past its end, some anywhere. */

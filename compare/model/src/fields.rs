@@ -1,21 +1,22 @@
 //! Fields: a number in 1 to K bits of a row.
 
 use crate::{
-    refusals::{in_bounds, refuse, Refusal},
+    refusals::{in_bounds, refuse, Refusal, DOES_NOT_FIT, FIELD_LENGTH, NOT_AN_INTEGER, NO_SUCH_K},
     words::{place_of, Span, Word},
 };
 
-/// Whether a field's first piece is the least (le) or the most (be) significant.
+/// Whether a field's first piece is the least (le) or the most (be) significant. As a number it is C's code.
 #[derive(Clone, Copy, Debug, Eq, PartialEq)]
 pub enum Significance {
-    Le,
-    Be,
+    Le = 0,
+    Be = 1,
 }
 
+/// Whether a field's number has a sign. As a number it is C's code.
 #[derive(Clone, Copy, Debug, Eq, PartialEq)]
 pub enum Sign {
-    Unsigned,
-    Signed,
+    Unsigned = 0,
+    Signed = 1,
 }
 
 /// A field: its bits, K, and how its number is read.
@@ -52,11 +53,11 @@ fn pieces<T: Word>(span: Span) -> impl Iterator<Item = Piece> {
     })
 }
 
-/// Refusals 1 to 5.
+/// Refuses a field that is out of bounds, or of a K or a length that it cannot have.
 fn checked<T: Word>(words: &[T], field: Field) -> Result<(), Refusal> {
     in_bounds(words, field.span)?;
-    refuse(4, ![8, 16, 32, 64].contains(&field.k))?;
-    refuse(5, field.span.length == 0 || field.span.length > field.k)
+    refuse(NO_SUCH_K, ![8, 16, 32, 64].contains(&field.k))?;
+    refuse(FIELD_LENGTH, field.span.length == 0 || field.span.length > field.k)
 }
 
 /// The field's number.
@@ -78,22 +79,22 @@ pub fn load<T: Word>(words: &[T], field: Field) -> Result<i128, Refusal> {
     Ok(number)
 }
 
-/// Refusal 8.
+/// Refuses a value that is not a K-bit integer of its sign.
 fn a_k_bit_integer(field: Field, value: i128) -> Result<(), Refusal> {
     let (least, above) = match field.sign {
         Sign::Unsigned => (0, 1i128 << field.k),
         Sign::Signed => (-(1 << (field.k - 1)), 1 << (field.k - 1)),
     };
-    refuse(8, value < least || value >= above)
+    refuse(NOT_AN_INTEGER, value < least || value >= above)
 }
 
-/// Refusal 9.
+/// Refuses a value that the field does not hold.
 fn fits(field: Field, value: i128) -> Result<(), Refusal> {
     let fits = match field.sign {
         Sign::Unsigned => value < 1 << field.span.length,
         Sign::Signed => value.abs() < 1 << (field.span.length - 1),
     };
-    refuse(9, !fits)
+    refuse(DOES_NOT_FIT, !fits)
 }
 
 /// Places the low bits of an accepted value so that a load returns them.
@@ -109,7 +110,7 @@ fn place<T: Word>(words: &mut [T], field: Field, value: i128) {
         before += piece.count;
         for j in 0..piece.count {
             let word = &mut words[piece.word];
-            *word = word.with_bit(piece.lowest + j, part >> j & 1 == 1);
+            *word = word.with_bit(piece.lowest + j, (part >> j) & 1 == 1);
         }
     }
 }

@@ -1,21 +1,21 @@
-//! The rules of Stableply (docs/RULES.md), one bit at a time.
+//! The rules of Stableply (docs/RULES.md), one bit at a time: what the library is held to here, and the Rust crate in its
+//! tests.
 //!
-//! Written from the rules alone: it shares no code with the library or with
-//! bitvec. Every function takes any arguments and gives either the one answer
-//! that the rules state or the number of the refusal. Sums are taken as whole
-//! numbers, 128 bits wide.
+//! Written from the rules alone: it shares no code with the library or with bitvec. Every function takes any arguments and
+//! gives either the one answer that the rules state or the number of the refusal. Sums are taken as whole numbers, 128 bits
+//! wide.
 
 mod fields;
 mod positions;
-mod refusals;
+pub mod refusals;
 mod rows;
 mod searches;
 mod words;
 
 pub use fields::{load, store, store_strict, Field, Sign, Significance};
 pub use positions::{mask, position, selector, split};
-pub use refusals::Refusal;
-pub use rows::{boolean, copy_from, copy_within, equal, swap};
+pub use refusals::{Refusal, MOST_WORDS};
+pub use rows::{boolean, copy_from, copy_within, equal, swap, AND, OR, XOR};
 pub use searches::{search, End};
 pub use words::{bit_of, set_bit_of, Order, Span, Word};
 

@@ -12,6 +12,7 @@ pub trait Word: Copy + PartialEq {
     fn with_bit(self, position: u64, bit: bool) -> Self;
 }
 
+/// Makes these types words.
 macro_rules! word {
     ($($number:ty),+) => { $(
         impl Word for $number {
@@ -30,11 +31,11 @@ macro_rules! word {
 
 word!(u8, u64);
 
-/// Which end of a word index 0 is.
+/// Which end of a word index 0 is. As a number it is C's code.
 #[derive(Clone, Copy, Debug, Eq, PartialEq)]
 pub enum Order {
-    Lsb0,
-    Msb0,
+    Lsb0 = 0,
+    Msb0 = 1,
 }
 
 /// A row of bits in lent words.

@@ -1,5 +1,8 @@
 //! The eighteen calls and the numbers that each takes.
 
+use model::{refusals::*, AND, OR, XOR};
+
+/// Defines the calls with their names.
 macro_rules! calls {
     ($($call:ident $name:literal),+ $(,)?) => {
         /// An exported call, named without its width.
@@ -138,34 +141,37 @@ impl Call {
     pub fn writes(self) -> bool {
         matches!(
             self,
-            Call::WriteBit
-                | Call::Store
-                | Call::StoreStrict
-                | Call::CopyFrom
-                | Call::CopyWithin
-                | Call::Boolean
-                | Call::Swap
+            Call::WriteBit | Call::Store | Call::StoreStrict | Call::CopyFrom | Call::CopyWithin | Call::Boolean | Call::Swap
         )
     }
 
-    /// The numbers of refusal that it can give, 255 among them.
+    /// What it can be refused with, [`NO_CODE`] among it.
     pub fn refusals(self) -> &'static [u8] {
+        macro_rules! of_a_span_and {
+            ($($refusal:ident),*) => { &[TOO_MANY_WORDS, INDEX_TOO_LARGE, OUT_OF_BOUNDS, $($refusal,)* NO_CODE] };
+        }
         match self {
-            Call::Position | Call::Selector => &[2, 255],
-            Call::Mask => &[2, 10, 255],
-            Call::Split | Call::ReadBit | Call::WriteBit | Call::CopyWithin => &[1, 2, 3, 10, 255],
-            Call::Load => &[1, 2, 3, 4, 5, 255],
-            Call::Store => &[1, 2, 3, 4, 5, 8, 255],
-            Call::StoreStrict => &[1, 2, 3, 4, 5, 8, 9, 255],
-            Call::CopyFrom | Call::Swap => &[1, 2, 3, 6, 7, 255],
-            Call::Boolean | Call::Equal => &[1, 2, 3, 6, 255],
-            Call::FirstOne | Call::LastOne | Call::FirstZero | Call::LastZero => &[1, 2, 3, 255],
+            Call::Position | Call::Selector => &[INDEX_TOO_LARGE, NO_CODE],
+            Call::Mask => &[INDEX_TOO_LARGE, NOT_BELOW, NO_CODE],
+            Call::Split | Call::ReadBit | Call::WriteBit | Call::CopyWithin => of_a_span_and!(NOT_BELOW),
+            Call::Load => of_a_span_and!(NO_SUCH_K, FIELD_LENGTH),
+            Call::Store => of_a_span_and!(NO_SUCH_K, FIELD_LENGTH, NOT_AN_INTEGER),
+            Call::StoreStrict => of_a_span_and!(NO_SUCH_K, FIELD_LENGTH, NOT_AN_INTEGER, DOES_NOT_FIT),
+            Call::CopyFrom | Call::Swap => of_a_span_and!(ORDERS_DIFFER, LENGTHS_DIFFER),
+            Call::Boolean | Call::Equal => of_a_span_and!(ORDERS_DIFFER),
+            Call::FirstOne | Call::LastOne | Call::FirstZero | Call::LastZero => of_a_span_and!(),
         }
     }
 }
 
+/// Significance and sign of each kind of field, as codes.
+pub const FIELD_KINDS: [(u64, u64); 4] = [(0, 0), (1, 0), (0, 1), (1, 1)];
+
 /// The widths that calls without lent words know.
 pub const WIDTHS: [u64; 2] = [8, 64];
 
-/// The boolean operations there are: and, or, xor by the number of their truth table.
-pub const OPERATIONS: [u64; 3] = [8, 14, 6];
+/// The boolean operations there are.
+pub const OPERATIONS: [u64; 3] = [AND as u64, OR as u64, XOR as u64];
+
+/// What is returned where an argument is no code of the interface. The rules do not know it.
+pub const NO_CODE: u8 = 255;

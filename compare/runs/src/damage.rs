@@ -1,9 +1,10 @@
 //! Damaged requests: for every refusal, and for several at once, so that their
 //! order shows.
 
+use model::{refusals::*, MOST_WORDS};
+
 use crate::{
     call::{Argument, Argument::*, Call},
-    generate::MOST_WORDS,
     lent::Lent,
     random::Random,
     request::Request,
@@ -32,22 +33,22 @@ pub fn lend_too_many<T: Lent>(request: &mut Request<T>, random: &mut Random) {
 fn damage_once<T: Lent>(request: &mut Request<T>, random: &mut Random) {
     match random.one_of(request.call.refusals()) {
         // Many words are slow to lend.
-        1 if request.call != Call::Split && !random.once_in(64) => {}
-        1 => lend_too_many(request, random),
-        2 => high_head(request, random),
-        3 => out_of_bounds(request, random),
-        4 => request[K] = random.one_of(&[0, 1, 7, 9, 24, 63, 65, 128, 264, (1 << 32) + 8, u64::MAX]),
-        5 => wrong_length(request, random),
-        6 => request[OtherOrder] ^= 1,
-        7 => differing_lengths(request, random),
-        8 => high_value(request, request[K], random),
-        9 => high_value(request, request[Length], random),
-        10 => past_the_span(request, random),
+        TOO_MANY_WORDS if request.call != Call::Split && !random.once_in(64) => {}
+        TOO_MANY_WORDS => lend_too_many(request, random),
+        INDEX_TOO_LARGE => high_head(request, random),
+        OUT_OF_BOUNDS => out_of_bounds(request, random),
+        NO_SUCH_K => request[K] = random.one_of(&[0, 1, 7, 9, 24, 63, 65, 128, 264, (1 << 32) + 8, u64::MAX]),
+        FIELD_LENGTH => wrong_length(request, random),
+        ORDERS_DIFFER => request[OtherOrder] ^= 1,
+        LENGTHS_DIFFER => differing_lengths(request, random),
+        NOT_AN_INTEGER => high_value(request, request[K], random),
+        DOES_NOT_FIT => high_value(request, request[Length], random),
+        NOT_BELOW => past_the_span(request, random),
         _ => unknown_code(request, random),
     }
 }
 
-/// 255: an argument that is no code.
+/// Makes an argument one that is no code.
 fn unknown_code<T: Lent>(request: &mut Request<T>, random: &mut Random) {
     let codes = request.call.arguments().iter().copied().filter(|argument| argument.is_code());
     let codes: Vec<Argument> = codes.collect();
@@ -59,7 +60,7 @@ fn unknown_code<T: Lent>(request: &mut Request<T>, random: &mut Random) {
     };
 }
 
-/// 2: a head, or an index in a word, of W or more.
+/// Gives it a head, or an index in a word, of W or more.
 fn high_head<T: Lent>(request: &mut Request<T>, random: &mut Random) {
     let width = if request.call.lends() { T::WIDTH } else { request[Width] };
     let high = random.one_of(&[width, width, width + 1, 256, 1 << 32, 1 << 63, u64::MAX]);
@@ -71,18 +72,18 @@ fn high_head<T: Lent>(request: &mut Request<T>, random: &mut Random) {
     }
 }
 
-/// 3: a span that is not in bounds, by one bit or by sums that pass 2^64.
+/// Gives it a span that is not in bounds, by one bit or by sums that pass 2^64.
 fn out_of_bounds<T: Lent>(request: &mut Request<T>, random: &mut Random) {
     let second = request.call.has_two_spans() && random.once_in(2);
     let (lent, word, head, length) =
         if second { (OtherLent, OtherWord, OtherHead, OtherLength) } else { (Lent, Word, Head, Length) };
     let width = if request.call.lends() { T::WIDTH } else { request[Width].max(1) };
-    let room = request.number(lent).saturating_mul(width);
+    let before = request[word].saturating_mul(width).saturating_add(request[head]);
+    let room = request.number(lent).saturating_mul(width).saturating_sub(before);
+    // Past the end by a bit or two; at or behind the last word; then numbers with which W * word, or a sum with it, passes
+    // 2^64.
     match random.upto(5) {
-        0 => {
-            let before = request[word].saturating_mul(width).saturating_add(request[head]);
-            request[length] = room.saturating_sub(before).saturating_add(1 + random.upto(2));
-        }
+        0 => request[length] = room.saturating_add(1 + random.upto(2)),
         1 => request[word] = request.number(lent).saturating_add(random.upto(2)),
         2 => request[word] = (1 << 63) / (width / 2).max(1),
         3 => request[length] = u64::MAX - random.upto(2 * width),
@@ -91,7 +92,7 @@ fn out_of_bounds<T: Lent>(request: &mut Request<T>, random: &mut Random) {
     }
 }
 
-/// 7: lengths that differ.
+/// Gives it two lengths that differ.
 fn differing_lengths<T: Lent>(request: &mut Request<T>, random: &mut Random) {
     let length = random.one_of(&[Length, OtherLength]);
     request[length] = match request[length] {
@@ -101,7 +102,7 @@ fn differing_lengths<T: Lent>(request: &mut Request<T>, random: &mut Random) {
     };
 }
 
-/// 5: a length that is not 1 to K.
+/// Gives a field a length that is not 1 to K.
 fn wrong_length<T: Lent>(request: &mut Request<T>, random: &mut Random) {
     if random.once_in(2) {
         request[Length] = 0;
@@ -115,7 +116,7 @@ fn wrong_length<T: Lent>(request: &mut Request<T>, random: &mut Random) {
     }
 }
 
-/// 8 or 9: a value next to the limits of so many bits.
+/// Gives a store a value next to the limits of so many bits: of K, or of the field.
 fn high_value<T: Lent>(request: &mut Request<T>, bits: u64, random: &mut Random) {
     let power = |bits: u64| 1u64.checked_shl(bits as u32).unwrap_or(u64::MAX);
     request[Value] = match random.upto(5) {
@@ -128,7 +129,7 @@ fn high_value<T: Lent>(request: &mut Request<T>, bits: u64, random: &mut Random)
     request[Below] = random.upto(1);
 }
 
-/// 10: an index, a place or a copied range past the span's end; a mask that is none.
+/// Gives it an index, a place or a copied range past the span's end, or a mask that is none.
 fn past_the_span<T: Lent>(request: &mut Request<T>, random: &mut Random) {
     let past = |limit: u64, random: &mut Random| {
         let by = random.upto(1);

@@ -33,11 +33,7 @@ pub fn compare(count: u64, seed: u64, asked: Asked) -> ExitCode {
     edges::limits(&mut bytes, &mut random);
     edges::limits(&mut words, &mut random);
     every_two_bytes(&mut bytes, asked, &mut random);
-    println!(
-        "fixed parts {} requests, {} s",
-        bytes.tally.requests() + words.tally.requests(),
-        begun.elapsed().as_secs()
-    );
+    println!("fixed parts {} requests, {} s", bytes.tally.requests() + words.tally.requests(), begun.elapsed().as_secs());
     mixed::mixed(&mut bytes, count / 2, &mut random);
     mixed::mixed(&mut words, count - count / 2, &mut random);
 

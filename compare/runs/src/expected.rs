@@ -5,7 +5,7 @@ use model::{End, Field, Order, Refusal, Sign, Significance, Span};
 
 use crate::{
     answer::Answer,
-    call::{Argument, Call, OPERATIONS, WIDTHS},
+    call::{Argument, Call, NO_CODE, OPERATIONS, WIDTHS},
     lent::Lent,
     request::Request,
 };
@@ -13,7 +13,7 @@ use crate::{
 /// The answer that a request is owed. The words lent become what they are owed to be.
 pub fn answer<T: Lent>(request: &Request<T>, words: &mut [T], other: &mut [T]) -> Answer {
     if request.call.arguments().iter().any(|&argument| !is_known(request, argument)) {
-        return Answer::Refused(255);
+        return Answer::Refused(NO_CODE);
     }
     let answer = match request.call {
         Call::Position | Call::Selector | Call::Mask | Call::Split => without_words(request),
@@ -37,9 +37,28 @@ fn is_known<T: Lent>(request: &Request<T>, argument: Argument) -> bool {
 
 /// The order of a known code.
 fn order(code: u64) -> Order {
-    match code {
-        0 => Order::Lsb0,
-        _ => Order::Msb0,
+    if code == Order::Lsb0 as u64 {
+        Order::Lsb0
+    } else {
+        Order::Msb0
+    }
+}
+
+/// The significance of a known code.
+fn significance(code: u64) -> Significance {
+    if code == Significance::Le as u64 {
+        Significance::Le
+    } else {
+        Significance::Be
+    }
+}
+
+/// The sign of a known code.
+fn sign(code: u64) -> Sign {
+    if code == Sign::Unsigned as u64 {
+        Sign::Unsigned
+    } else {
+        Sign::Signed
     }
 }
 
@@ -63,12 +82,14 @@ pub fn other_span<T: Lent>(request: &Request<T>) -> Span {
     }
 }
 
-/// The value handed to a store, with its sign.
+/// The whole number handed to a store: `value`, or -1 - `value` where it is below zero.
 pub fn value<T: Lent>(request: &Request<T>) -> i128 {
     let value = request[Argument::Value] as i128;
-    match request[Argument::Below] {
-        0 => value,
-        _ => -1 - value,
+    let below = request[Argument::Below] == 1;
+    if below {
+        -1 - value
+    } else {
+        value
     }
 }
 
@@ -102,14 +123,8 @@ fn field<T: Lent>(request: &Request<T>, words: &mut [T]) -> Result<Answer, Refus
     let field = Field {
         span: span(request),
         k: request[Argument::K],
-        significance: match request[Argument::Significance] {
-            0 => Significance::Le,
-            _ => Significance::Be,
-        },
-        sign: match request[Argument::Sign] {
-            0 => Sign::Unsigned,
-            _ => Sign::Signed,
-        },
+        significance: significance(request[Argument::Significance]),
+        sign: sign(request[Argument::Sign]),
     };
     match request.call {
         Call::Load => return Ok(Answer::Number(model::load(words, field)? as u64)),

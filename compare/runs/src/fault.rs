@@ -1,17 +1,27 @@
 //! Wrong answers: the library's own, spoiled in one way each, to show that a
 //! run finds such a fault.
 
-use model::{bit_of, set_bit_of};
+use model::{bit_of, refusals::*, set_bit_of, AND, MOST_WORDS};
 
 use crate::{
     answer::Answer,
-    call::{Argument::*, Call},
+    call::{Argument::*, Call, NO_CODE},
     expected::{self, span},
     judge::Outcome,
     lent::Lent,
     request::Request,
 };
 
+/// What an accepted call returns.
+const ACCEPTED: u8 = 0;
+
+/// Order, significance and sign of an unsigned Msb0 le field.
+const UNSIGNED_MSB0_LE: [u64; 3] = [model::Order::Msb0 as u64, model::Significance::Le as u64, model::Sign::Unsigned as u64];
+
+/// The code of a sign.
+const SIGNED: u64 = model::Sign::Signed as u64;
+
+/// Defines the faults and the list of them.
 macro_rules! faults {
     ($($fault:ident),+ $(,)?) => {
         /// A way to be wrong.
@@ -57,7 +67,7 @@ faults! {
 impl Fault {
     /// Spoils what the library left; says what the call then returns.
     pub fn spoil<T: Lent>(self, request: &Request<T>, outcome: Outcome<T>) -> u8 {
-        if outcome.code == 0 {
+        if outcome.code == ACCEPTED {
             self.spoil_accepted(request, outcome)
         } else {
             self.spoil_refused(request, outcome)
@@ -73,7 +83,7 @@ impl Fault {
         match self {
             Fault::AlwaysDeclines if call.lends() => {
                 words.words_and_after()[..lent].copy_from_slice(&request.words);
-                return 3;
+                return OUT_OF_BOUNDS;
             }
             Fault::LoadsGiveZero if call == Call::Load => *places.place(0) = 0,
             Fault::SearchesSayAbsent if call.is_search() => *places.place(0) &= !0xFF,
@@ -91,7 +101,7 @@ impl Fault {
                     set_bit_of(words.words_and_after(), first, request[Destination] + i, bit);
                 }
             }
-            Fault::AndKeepsLeftPastTheRight if call == Call::Boolean && request[Operation] == 8 => {
+            Fault::AndKeepsLeftPastTheRight if call == Call::Boolean && request[Operation] == AND as u64 => {
                 for i in request[OtherLength]..first.length {
                     let old = bit_of(&request.words, first, i);
                     set_bit_of(words.words_and_after(), first, i, old);
@@ -101,13 +111,13 @@ impl Fault {
                 *places.place(0) = load_otherwise(request, |request| request[Significance] ^= 1)
             }
             Fault::ReversesWholeMsb0LeFields
-                if call == Call::Load && [Order, Significance, Sign].map(|code| request[code]) == [1, 0, 0] =>
+                if call == Call::Load && [Order, Significance, Sign].map(|code| request[code]) == UNSIGNED_MSB0_LE =>
             {
-                let be = load_otherwise(request, |request| request[Significance] = 1);
+                let be = load_otherwise(request, |request| request[Significance] = model::Significance::Be as u64);
                 *places.place(0) = be.reverse_bits() >> (64 - first.length);
             }
             Fault::ForgetsTheSign if call == Call::Load => {
-                *places.place(0) = load_otherwise(request, |request| request[Sign] = 0)
+                *places.place(0) = load_otherwise(request, |request| request[Sign] = model::Sign::Unsigned as u64)
             }
             Fault::OverwritesTheNextBit if call.writes() => {
                 let next = first.word * T::WIDTH + first.head + first.length;
@@ -142,39 +152,39 @@ impl Fault {
             }
             _ => {}
         }
-        0
+        ACCEPTED
     }
 
     /// Spoils what a refused call left.
     fn spoil_refused<T: Lent>(self, request: &Request<T>, outcome: Outcome<T>) -> u8 {
         match (self, outcome.code) {
             (Fault::WritesOutOnRefusal, _) if request.call == Call::Load => *outcome.places.place(0) = 0,
-            (Fault::TakesOneWordTooMany, 1) if request.words.len() == 65_537 => {
-                return code_otherwise(request, |request| request.words.truncate(65_536))
+            (Fault::TakesOneWordTooMany, TOO_MANY_WORDS) if request.words.len() as u64 == MOST_WORDS + 1 => {
+                return code_otherwise(request, |request| request.words.truncate(MOST_WORDS as usize))
             }
-            (Fault::TakesOneBitTooMany, 3) => {
+            (Fault::TakesOneBitTooMany, OUT_OF_BOUNDS) => {
                 return code_otherwise(request, |request| request[Length] = request[Length].saturating_sub(1))
             }
-            (Fault::SecondSpanFirst, 1..=3) if request.call.has_two_spans() && !request.shared => {
+            (Fault::SecondSpanFirst, TOO_MANY_WORDS..=OUT_OF_BOUNDS) if request.call.has_two_spans() && !request.shared => {
                 return code_otherwise(request, exchange_sides)
             }
-            (Fault::SumsWrapAt64Bits, 3) if request.call.lends() && !request.call.has_two_spans() => {
+            (Fault::SumsWrapAt64Bits, OUT_OF_BOUNDS) if request.call.lends() && !request.call.has_two_spans() => {
                 let begin = request[Word].wrapping_mul(T::WIDTH).wrapping_add(request[Head]);
                 let inside = begin.wrapping_add(request[Length]) <= request.number(Lent) * T::WIDTH;
-                return if inside { 0 } else { 3 };
+                return if inside { ACCEPTED } else { OUT_OF_BOUNDS };
             }
-            (Fault::SumsWrapAt64Bits, 10) if request.call == Call::CopyWithin => {
+            (Fault::SumsWrapAt64Bits, NOT_BELOW) if request.call == Call::CopyWithin => {
                 let end = |from| request[from].wrapping_add(request[Count]);
                 let inside = end(Start) <= request[Length] && end(Destination) <= request[Length];
-                return if inside { 0 } else { 10 };
+                return if inside { ACCEPTED } else { NOT_BELOW };
             }
-            (Fault::UnknownCodesAfterNumbers, 255) => {
+            (Fault::UnknownCodesAfterNumbers, NO_CODE) => {
                 let numbered = code_otherwise(request, make_codes_known);
-                return if numbered == 0 { 255 } else { numbered };
+                return if numbered == ACCEPTED { NO_CODE } else { numbered };
             }
-            (Fault::StrictStoresTakeTheLowest, 9) if request[Sign] == 1 && request[Below] == 1 => {
+            (Fault::StrictStoresTakeTheLowest, DOES_NOT_FIT) if request[Sign] == SIGNED && request[Below] == 1 => {
                 let lowest = (1 << (request[Length] - 1)) - 1;
-                return if request[Value] == lowest { 0 } else { 9 };
+                return if request[Value] == lowest { ACCEPTED } else { DOES_NOT_FIT };
             }
             _ => {}
         }
@@ -216,7 +226,7 @@ fn make_codes_known<T: Lent>(request: &mut Request<T>) {
     for &argument in request.call.arguments() {
         match argument {
             Width => request[Width] = 8,
-            Operation => request[Operation] = 8,
+            Operation => request[Operation] = AND as u64,
             _ if argument.is_code() => request[argument] %= 2,
             _ => {}
         }

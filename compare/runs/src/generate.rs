@@ -1,6 +1,8 @@
 //! Random requests that the rules accept: all heads, lengths around the limits
 //! of words and of 64-bit chunks, telling contents, overlapping copies.
 
+use model::MOST_WORDS;
+
 use crate::{
     call::{Argument::*, Call, OPERATIONS, WIDTHS},
     expected::{other_span, span},
@@ -9,8 +11,8 @@ use crate::{
     request::Request,
 };
 
-/// The most words a buffer has.
-pub const MOST_WORDS: u64 = 65_536;
+/// The bits that bitvec, and the library, take at once.
+const CHUNK: u64 = 64;
 
 /// How long rows are.
 #[derive(Clone, Copy, Debug, Eq, PartialEq)]
@@ -71,35 +73,24 @@ fn with_words<T: Lent>(request: &mut Request<T>, length: u64, rows: Rows, random
 fn row_length<T: Lent>(rows: Rows, random: &mut Random) -> u64 {
     let most = match rows {
         Rows::Short(most) => most,
-        Rows::Mixed => match random.upto(17) {
-            0 => 6_144,
-            1 | 2 => 1_536,
-            3..9 => 512,
-            _ => 192,
-        },
+        Rows::Mixed => random.weighted(&[(1, 6_144), (2, 1_536), (6, 512), (9, 192)]),
         Rows::Largest => {
             let most = MOST_WORDS * T::WIDTH;
             return if random.once_in(2) { most - random.upto(3 * T::WIDTH) } else { random.upto(most) };
         }
     };
-    let near = match random.upto(3) {
-        0 | 1 => return random.upto(most),
-        2 => T::WIDTH * random.upto(most / T::WIDTH),
-        _ => 64 * random.upto(most / 64),
-    };
-    (near + random.upto(4)).saturating_sub(2).min(most)
+    match random.weighted(&[(2, None), (1, Some(T::WIDTH)), (1, Some(CHUNK))]) {
+        None => random.upto(most),
+        Some(unit) => {
+            let near = unit * random.upto(most / unit);
+            (near + random.upto(4)).saturating_sub(2).min(most)
+        }
+    }
 }
 
 /// Gives the first (or the second) span an order, a place and the length; says how many words have
 /// to be lent. The span mostly ends in the last of them.
-fn place_row<T: Lent>(
-    request: &mut Request<T>,
-    second: bool,
-    width: u64,
-    length: u64,
-    rows: Rows,
-    random: &mut Random,
-) -> u64 {
+fn place_row<T: Lent>(request: &mut Request<T>, second: bool, width: u64, length: u64, rows: Rows, random: &mut Random) -> u64 {
     let (order, word, head) = if second { (OtherOrder, OtherWord, OtherHead) } else { (Order, Word, Head) };
     request[if second { OtherLength } else { Length }] = length;
     request[order] = if second { request[Order] } else { random.upto(1) };
@@ -124,21 +115,32 @@ fn place_row<T: Lent>(
     }
 }
 
+/// What bits words hold.
+#[derive(Clone, Copy)]
+enum Contents {
+    Any,
+    /// All bits are this one.
+    All(bool),
+    /// One to three bits are this one, the others not.
+    Few(bool),
+}
+
 /// Fills the words: any bits, all zeros, all ones, or nearly so.
 pub fn contents<T: Lent>(words: &mut Vec<T>, count: u64, random: &mut Random) {
+    use Contents::{All, Any, Few};
+    let all = |bit: bool| if bit { T::ALL_ONES } else { T::of(0) };
     words.clear();
     let count = count as usize;
-    match random.upto(7) {
-        0..=2 => words.extend((0..count).map(|_| T::of(random.bits()))),
-        3 => words.resize(count, T::of(0)),
-        4 => words.resize(count, T::ALL_ONES),
-        style => {
-            words.resize(count, if style == 5 { T::of(0) } else { T::ALL_ONES });
+    match random.weighted(&[(3, Any), (1, All(false)), (1, All(true)), (1, Few(true)), (2, Few(false))]) {
+        Any => words.extend((0..count).map(|_| T::of(random.bits()))),
+        All(bit) => words.resize(count, all(bit)),
+        Few(bit) => {
+            words.resize(count, all(!bit));
             for _ in 0..=random.upto(2) {
                 if count > 0 {
                     let at = random.upto(count as u64 - 1) as usize;
-                    let bit = random.upto(T::WIDTH - 1);
-                    words[at] = words[at].with_bit(bit, style == 5);
+                    let position = random.upto(T::WIDTH - 1);
+                    words[at] = words[at].with_bit(position, bit);
                 }
             }
         }
@@ -189,19 +191,23 @@ pub fn make_equal<T: Lent>(request: &mut Request<T>, length: u64, random: &mut R
     }
 }
 
+/// Where a copy goes: to lower indexes or to higher ones.
+#[derive(Clone, Copy)]
+enum Way {
+    Down,
+    Up,
+}
+
 /// A copy that mostly overlaps itself.
 fn copy_within<T: Lent>(request: &mut Request<T>, length: u64, random: &mut Random) {
-    let count = match random.upto(3) {
-        0 => random.upto(length),
-        _ => length.saturating_sub(random.upto(130)),
-    };
+    let count = if random.once_in(4) { random.upto(length) } else { length.saturating_sub(random.upto(130)) };
     let room = length - count;
     let start = random.upto(room);
     let near = random.one_of(&[1, 7, 8, 63, 64, 65, 127, 128]) + random.upto(2) - 1;
-    let destination = match random.upto(3) {
-        0 => random.upto(room),
-        1 => start.saturating_sub(near),
-        _ => (start + near).min(room),
+    let destination = match random.weighted(&[(1, None), (1, Some(Way::Down)), (2, Some(Way::Up))]) {
+        None => random.upto(room),
+        Some(Way::Down) => start.saturating_sub(near),
+        Some(Way::Up) => (start + near).min(room),
     };
     request[Start] = start;
     request[Count] = count;

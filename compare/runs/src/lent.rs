@@ -14,6 +14,7 @@ pub trait Lent: model::Word + bitvec::oracle::Word + Debug {
     fn number(self) -> u64;
 }
 
+/// Makes these types such words.
 macro_rules! lent {
     ($($word:ty),+) => { $(
         impl Lent for $word {

@@ -147,6 +147,7 @@ macro_rules! field {
     };
 }
 
+/// Hands each call on one type of word to the module that declares it.
 macro_rules! exported {
     ($word:ty, $calls:ident) => {
         impl Exported for $word {

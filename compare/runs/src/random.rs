@@ -13,9 +13,9 @@ impl Random {
     pub fn bits(&mut self) -> u64 {
         self.0 = self.0.wrapping_add(0x9E37_79B9_7F4A_7C15);
         let mut z = self.0;
-        z = (z ^ z >> 30).wrapping_mul(0xBF58_476D_1CE4_E5B9);
-        z = (z ^ z >> 27).wrapping_mul(0x94D0_49BB_1331_11EB);
-        z ^ z >> 31
+        z = (z ^ (z >> 30)).wrapping_mul(0xBF58_476D_1CE4_E5B9);
+        z = (z ^ (z >> 27)).wrapping_mul(0x94D0_49BB_1331_11EB);
+        z ^ (z >> 31)
     }
 
     /// A number from 0 up to and with `most`.
@@ -26,6 +26,19 @@ impl Random {
     /// Yes, once in `times`.
     pub fn once_in(&mut self, times: u64) -> bool {
         self.upto(times - 1) == 0
+    }
+
+    /// One of these, each as often as the number beside it says.
+    pub fn weighted<C: Copy>(&mut self, choices: &[(u64, C)]) -> C {
+        let all: u64 = choices.iter().map(|(weight, _)| weight).sum();
+        let mut left = self.upto(all - 1);
+        for &(weight, choice) in choices {
+            if left < weight {
+                return choice;
+            }
+            left -= weight;
+        }
+        unreachable!("less than all weights together is drawn")
     }
 
     /// One of these.

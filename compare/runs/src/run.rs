@@ -1,8 +1,6 @@
 //! A run: requests judged and counted, disagreements shrunk and printed.
 
-use crate::{
-    call::Call, fault::Fault, judge::Judge, library::Exported, request::Request, shrink::shrink, tally::Tally,
-};
+use crate::{call::Call, fault::Fault, judge::Judge, library::Exported, request::Request, shrink::shrink, tally::Tally};
 
 /// The requests of one width.
 pub struct Run<T> {

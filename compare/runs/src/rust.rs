@@ -12,6 +12,10 @@ use bitvec::{
     order::{BitOrder, Lsb0, Msb0},
     slice::BitSlice,
 };
+use model::{
+    refusals::{FIELD_LENGTH, LENGTHS_DIFFER},
+    Order, Sign, Significance, AND, MOST_WORDS, OR, XOR,
+};
 
 use crate::{
     answer::Answer,
@@ -39,7 +43,7 @@ pub fn let_bitvec_panic_quietly() {
 
 /// bitvec's answer. The words lent become what bitvec leaves.
 pub fn answer<T: Lent>(request: &Request<T>, words: &mut [T], other: &mut [T]) -> Result<Answer, Stopped> {
-    let lsb0 = request[Argument::Order] == 0;
+    let lsb0 = request[Argument::Order] == Order::Lsb0 as u64;
     ASKED.store(true, Relaxed);
     let answer = catch_unwind(AssertUnwindSafe(|| match (request.call.lends(), lsb0) {
         (false, true) => without_words::<T, Lsb0>(request),
@@ -54,7 +58,7 @@ pub fn answer<T: Lent>(request: &Request<T>, words: &mut [T], other: &mut [T]) -
 /// Whether bitvec itself refuses what the rules refuse with this number: it
 /// then has to stop.
 pub fn stops_on(call: Call, refusal: u8) -> bool {
-    refusal == 5 || refusal == 7 && call == Call::CopyFrom
+    refusal == FIELD_LENGTH || refusal == LENGTHS_DIFFER && call == Call::CopyFrom
 }
 
 /// Whether the request is of the kind that bitvec's `msb0.rs` goes below zero
@@ -63,13 +67,13 @@ pub fn stops_on(call: Call, refusal: u8) -> bool {
 pub fn goes_below_zero<T: Lent>(request: &Request<T>, expected: Answer) -> bool {
     matches!(request.call, Call::LastOne | Call::LastZero)
         && expected == Answer::Absent
-        && request[Argument::Order] == 1
+        && request[Argument::Order] == Order::Msb0 as u64
         && request[Argument::Head] == 0
         && request[Argument::Length] > 0
 }
 
 /// Quiet memory for the split, which is lent none.
-static ZEROS: [u64; 65_536] = [0; 65_536];
+static ZEROS: [u64; MOST_WORDS as usize] = [0; MOST_WORDS as usize];
 
 /// The calls without words, at the request's width.
 fn without_words<T: Lent, O: BitOrder>(request: &Request<T>) -> Answer
@@ -144,10 +148,10 @@ where
         }
         Call::Boolean => {
             let right = view::<T, O>(other, other_word, other_head, other_length);
-            match request[Argument::Operation] {
-                6 => row.bitop::<6>(right),
-                8 => row.bitop::<8>(right),
-                _ => row.bitop::<14>(right),
+            match request.code(Argument::Operation) {
+                AND => row.bitop::<AND>(right),
+                OR => row.bitop::<OR>(right),
+                _ => row.bitop::<XOR>(right),
             }
         }
         _ => row.swap(view_mut(other, other_word, other_head, other_length)),
@@ -158,26 +162,32 @@ where
 /// Calls `$each` with the integer type of the request's K and sign.
 macro_rules! by_type {
     ($request:expr, $each:ident) => {
-        match ($request[Argument::K], $request[Argument::Sign]) {
-            (8, 0) => $each!(u8),
-            (8, _) => $each!(i8),
-            (16, 0) => $each!(u16),
-            (16, _) => $each!(i16),
-            (32, 0) => $each!(u32),
-            (32, _) => $each!(i32),
-            (_, 0) => $each!(u64),
-            (_, _) => $each!(i64),
+        match ($request[Argument::K], $request[Argument::Sign] == Sign::Signed as u64) {
+            (8, false) => $each!(u8),
+            (8, true) => $each!(i8),
+            (16, false) => $each!(u16),
+            (16, true) => $each!(i16),
+            (32, false) => $each!(u32),
+            (32, true) => $each!(i32),
+            (_, false) => $each!(u64),
+            (_, true) => $each!(i64),
         }
     };
+}
+
+/// Whether the request's field begins with its least significant piece.
+fn is_le<T: Lent>(request: &Request<T>) -> bool {
+    request[Argument::Significance] == Significance::Le as u64
 }
 
 /// The field's number, in 64-bit two's complement.
 fn load<T: Lent, R: BitField + ?Sized>(row: &R, request: &Request<T>) -> u64 {
     macro_rules! load {
         ($integer:ty) => {
-            match request[Argument::Significance] {
-                0 => row.load_le::<$integer>() as i64 as u64,
-                _ => row.load_be::<$integer>() as i64 as u64,
+            if is_le(request) {
+                row.load_le::<$integer>() as i64 as u64
+            } else {
+                row.load_be::<$integer>() as i64 as u64
             }
         };
     }
@@ -189,9 +199,10 @@ fn store<T: Lent, R: BitField + ?Sized>(row: &mut R, request: &Request<T>) {
     let value = crate::expected::value(request);
     macro_rules! store {
         ($integer:ty) => {
-            match request[Argument::Significance] {
-                0 => row.store_le::<$integer>(value as $integer),
-                _ => row.store_be::<$integer>(value as $integer),
+            if is_le(request) {
+                row.store_le::<$integer>(value as $integer)
+            } else {
+                row.store_be::<$integer>(value as $integer)
             }
         };
     }

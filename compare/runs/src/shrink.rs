@@ -96,8 +96,7 @@ struct Relaid<T> {
 /// is not in bounds.
 fn relaid<T: Lent>(words: &[T], old: Span, from: u64, bits: u64, head: u64) -> Option<Relaid<T>> {
     model::equal(words, old, words, old).ok()?;
-    let kept: Vec<bool> =
-        (0..old.length).filter(|&i| i < from || i - from >= bits).map(|i| bit_of(words, old, i)).collect();
+    let kept: Vec<bool> = (0..old.length).filter(|&i| i < from || i - from >= bits).map(|i| bit_of(words, old, i)).collect();
     let length = kept.len() as u64;
     let row = Span { order: old.order, word: 0, head, length };
     let mut words = vec![T::of(0); (head + length).div_ceil(T::WIDTH) as usize];
@@ -193,7 +192,7 @@ fn content_steps<T: Lent>(request: &Request<T>, steps: &mut Vec<Step>) {
         for (at, word) in words.iter().enumerate().filter(|(_, word)| word.number() != 0) {
             let number = word.number();
             steps.push(Step::Word { second, at, number: 0 });
-            let ones = (0..64).filter(|bit| number >> bit & 1 == 1);
+            let ones = (0..64).filter(|bit| (number >> bit) & 1 == 1);
             steps.extend(ones.map(|bit| Step::Word { second, at, number: number & !(1 << bit) }));
         }
     }

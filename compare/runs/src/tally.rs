@@ -2,7 +2,7 @@
 
 use crate::{
     answer::Answer,
-    call::{Argument, Call},
+    call::{Argument, Call, NO_CODE},
     judge::Verdict,
     lent::Lent,
     request::Request,
@@ -21,8 +21,8 @@ struct Counts {
     /// Refused, and bitvec stopped too.
     stopped_too: u64,
     disagree: u64,
-    /// Refusals 1 to 10, and 255 in the last place.
-    refused: [u64; 11],
+    /// How often each of `REFUSALS` was given.
+    refused: [u64; REFUSALS.len()],
 }
 
 /// The counts of all calls.
@@ -35,12 +35,12 @@ pub struct Tally {
     ends: [[u64; 2]; 2],
 }
 
-/// Where a refusal's number is counted.
+/// All that a call can be refused with, in the order in which it is counted.
+const REFUSALS: [u8; 11] = [1, 2, 3, 4, 5, 6, 7, 8, 9, 10, NO_CODE];
+
+/// Where a refusal is counted.
 fn refusal_place(code: u8) -> usize {
-    match code {
-        255 => 10,
-        code => code as usize - 1,
-    }
+    REFUSALS.iter().position(|&refusal| refusal == code).expect("a refusal")
 }
 
 impl Tally {
@@ -155,7 +155,7 @@ impl Tally {
             }
         }
         print!("refused with");
-        for (number, refused) in [1, 2, 3, 4, 5, 6, 7, 8, 9, 10, 255].into_iter().zip(all.refused) {
+        for (number, refused) in REFUSALS.into_iter().zip(all.refused) {
             print!("  {number}: {refused}");
         }
         println!("\naccepted {}, of these compared with bitvec {}", all.accepted, all.with_rust);

@@ -128,7 +128,7 @@ impl Taker<'_> {
         let bytes = T::WIDTH as usize / 8;
         let (words, rest) = self.0.split_at_checked(count * bytes)?;
         self.0 = rest;
-        let number = |word: &[u8]| word.iter().rev().fold(0, |number, &byte| number << 8 | byte as u64);
+        let number = |word: &[u8]| word.iter().rev().fold(0, |number, &byte| (number << 8) | byte as u64);
         Some(words.chunks(bytes).map(|word| T::of(number(word))).collect())
     }
 }

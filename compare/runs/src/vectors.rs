@@ -2,12 +2,14 @@
 
 use std::process::ExitCode;
 
+use model::{AND, MOST_WORDS};
+
 use crate::{
     answer::Answer,
     call::{Argument::*, Call},
     damage::damage,
     expected,
-    generate::{accepted, Rows, MOST_WORDS},
+    generate::{accepted, Rows},
     lent::Lent,
     library::{Exported, Places},
     random::Random,
@@ -60,7 +62,7 @@ fn limit_records<T: Lent>(call: Call) -> Vec<Vec<u8>> {
     let mut request = Request::<T>::new(call);
     request[Length] = if call.is_field() || matches!(call, Call::ReadBit | Call::WriteBit) { 1 } else { 0 };
     request[K] = 8;
-    request[Operation] = 8;
+    request[Operation] = AND as u64;
     let lend = |request: &mut Request<T>, words: u64, other: u64| {
         request.words = vec![T::of(0); words as usize];
         request.other = vec![T::of(0); if call.has_two_spans() { other as usize } else { 0 }];

@@ -4,8 +4,8 @@
 //! holds it to that). A STAND-IN is written anew or, where it says so, made of
 //! excerpts.
 
-// The verbatim files hold more than is called here.
-#![allow(dead_code, unused_imports, mismatched_lifetime_syntaxes)]
+// The verbatim files hold more than is called here. An older compiler does not know the last of these lints.
+#![allow(dead_code, unused_imports, unknown_lints, mismatched_lifetime_syntaxes)]
 
 /// The verbatim files take their documentation from files of bitvec's folder
 /// doc, which is not here: it is left empty.

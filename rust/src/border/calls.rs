@@ -2,7 +2,7 @@
 //!
 //! This file alone is also the crate `exported` of compare/, so that the calls compared are the calls bound here.
 
-/// Declares the calls on lent words, once for each width, and gathers those of one width in a [`Calls`].
+/// Takes the calls on lent words: defines [`Calls`], and the macro that declares them all at one width.
 macro_rules! calls_on_words {
     ($($name:ident($($argument:ident: $kind:ty),* $(,)?);)*) => {
         /// The calls on rows of `W` words.
@@ -10,30 +10,23 @@ macro_rules! calls_on_words {
             $(pub $name: unsafe extern "C" fn($($argument: $kind),*) -> u8,)*
         }
 
-        /// The calls on words of 8 bits.
-        pub mod on_u8 {
-            type W = u8;
-            unsafe extern "C" {
-                $(
-                    #[link_name = concat!("stableply8_", stringify!($name))]
-                    pub fn $name($($argument: $kind),*) -> u8;
-                )*
-            }
-        }
+        /// Declares the calls on one kind of words in a module, and gathers them in a [`Calls`].
+        macro_rules! width {
+            ($word:ty, $prefix:literal, $module:ident, $calls:ident) => {
+                #[doc = concat!("The calls on words of type `", stringify!($word), "`.")]
+                pub mod $module {
+                    type W = $word;
+                    unsafe extern "C" {
+                        $(
+                            #[link_name = concat!($prefix, stringify!($name))]
+                            pub fn $name($($argument: $kind),*) -> u8;
+                        )*
+                    }
+                }
 
-        /// The calls on words of 64 bits.
-        pub mod on_u64 {
-            type W = u64;
-            unsafe extern "C" {
-                $(
-                    #[link_name = concat!("stableply64_", stringify!($name))]
-                    pub fn $name($($argument: $kind),*) -> u8;
-                )*
-            }
+                pub const $calls: Calls<$word> = Calls { $($name: $module::$name),* };
+            };
         }
-
-        pub const ON_U8: Calls<u8> = Calls { $($name: on_u8::$name),* };
-        pub const ON_U64: Calls<u64> = Calls { $($name: on_u64::$name),* };
     };
 }
 
@@ -71,6 +64,10 @@ calls_on_words! {
               found: *mut u8, at: *mut usize);
 }
 
+width!(u8, "stableply8_", on_u8, ON_U8);
+width!(u64, "stableply64_", on_u64, ON_U64);
+
+// The calls without lent words.
 unsafe extern "C" {
     pub fn stableply_position(width: u8, order: u8, index: usize, out: *mut u64) -> u8;
     pub fn stableply_selector(width: u8, order: u8, index: usize, out: *mut u64) -> u8;

@@ -19,9 +19,7 @@ fn main() -> ExitCode {
     rust::let_bitvec_panic_quietly();
     match words[..] {
         ["self-test", seed] if number(seed).is_ok() => self_test(number(seed).unwrap()),
-        [count, seed, ref rest @ ..]
-            if number(count).is_ok() && number(seed).is_ok() && matches!(rest, [] | ["every"]) =>
-        {
+        [count, seed, ref rest @ ..] if number(count).is_ok() && number(seed).is_ok() && matches!(rest, [] | ["every"]) => {
             let asked = if rest.is_empty() { Asked::Some } else { Asked::All };
             compare(number(count).unwrap(), number(seed).unwrap(), asked)
         }

@@ -2,7 +2,7 @@
 //! and chunks; every index and mask; the limit of words.
 
 use crate::{
-    call::{Argument::*, Call, OPERATIONS, WIDTHS},
+    call::{Argument::*, Call, FIELD_KINDS, OPERATIONS, WIDTHS},
     damage::lend_too_many,
     generate::{accepted, contents, Rows},
     lent::Lent,
@@ -53,10 +53,9 @@ fn at_head<T: Exported>(run: &mut Run<T>, request: &mut Request<T>, random: &mut
             }
         }
         Call::Load | Call::Store | Call::StoreStrict => {
-            for (k, kind) in [8, 16, 32, 64].into_iter().flat_map(|k| (0..4).map(move |kind| (k, kind))) {
+            for (k, kind) in [8, 16, 32, 64].into_iter().flat_map(|k| FIELD_KINDS.map(|kind| (k, kind))) {
                 request[K] = k;
-                request[Significance] = kind & 1;
-                request[Sign] = kind >> 1;
+                (request[Significance], request[Sign]) = kind;
                 request[Value] = random.bits() >> random.upto(63);
                 request[Below] = request[Sign] & random.upto(1);
                 run.hold(request);

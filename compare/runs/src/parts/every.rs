@@ -1,7 +1,7 @@
 //! Every span of every buffer of two bytes, in both orders.
 
 use crate::{
-    call::{Argument::*, Call, OPERATIONS},
+    call::{Argument::*, Call, FIELD_KINDS, OPERATIONS},
     generate::make_equal,
     random::Random,
     request::Request,
@@ -17,8 +17,10 @@ pub enum Asked {
     All,
 }
 
+/// The searches.
 const SEARCHES: [Call; 4] = [Call::FirstOne, Call::LastOne, Call::FirstZero, Call::LastZero];
 
+/// The calls on lent words that are neither searches nor loads.
 const OTHERS: [Call; 9] = [
     Call::ReadBit,
     Call::WriteBit,
@@ -48,12 +50,12 @@ pub fn every_two_bytes(run: &mut Run<u8>, asked: Asked, random: &mut Random) {
                 match asked {
                     Asked::Some => {
                         search(run, &mut request, random.one_of(&SEARCHES));
-                        load(run, &mut request, random.upto(3));
+                        load(run, &mut request, random.one_of(&FIELD_KINDS));
                         other(run, &mut request, random.one_of(&OTHERS), random);
                     }
                     Asked::All => {
                         SEARCHES.into_iter().for_each(|call| search(run, &mut request, call));
-                        (0..4).for_each(|kind| load(run, &mut request, kind));
+                        FIELD_KINDS.into_iter().for_each(|kind| load(run, &mut request, kind));
                         OTHERS.into_iter().for_each(|call| other(run, &mut request, call, random));
                     }
                 }
@@ -68,15 +70,14 @@ fn search(run: &mut Run<u8>, request: &mut Request<u8>, call: Call) {
     run.hold(request);
 }
 
-/// A load as le or be, unsigned or signed.
-fn load(run: &mut Run<u8>, request: &mut Request<u8>, kind: u64) {
+/// A load of one of the kinds of field.
+fn load(run: &mut Run<u8>, request: &mut Request<u8>, kind: (u64, u64)) {
     // A field has at least one bit. bitvec stops on none, which is slow: one buffer shows it.
     if request[Length] == 0 && request.words != [0, 0] {
         return;
     }
     request.call = Call::Load;
-    request[Significance] = kind & 1;
-    request[Sign] = kind >> 1;
+    (request[Significance], request[Sign]) = kind;
     run.hold(request);
 }
 

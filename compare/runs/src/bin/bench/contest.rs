@@ -19,6 +19,7 @@ pub enum Who {
 }
 
 impl Who {
+    /// All of them, in the order of their columns.
     pub const ALL: [Who; 6] = [Who::Library, Who::Bitvec, Who::Plain, Who::Checked, Who::Memory, Who::Eight];
 }
 

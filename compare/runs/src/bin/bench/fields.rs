@@ -8,6 +8,7 @@ use bitvec::{
     order::{BitOrder, Lsb0, Msb0},
     slice::BitSlice,
 };
+use model::{Order, Sign, Significance};
 use runs::random::Random;
 
 use crate::{
@@ -16,9 +17,13 @@ use crate::{
     width::{done, Calls, Checked, Kind, Row, Width},
 };
 
-/// How many fields are taken in one go, and from how many words.
+/// How many fields are taken in one go.
 const FIELDS: usize = 1024;
-const WORDS: usize = 8192;
+/// The words that they are taken from.
+pub const WORDS: usize = 8192;
+
+/// A field of 64 bits at an odd head lies in nine bytes.
+const MOST_WORDS_OF_A_FIELD: usize = 9;
 
 /// What is done to a field.
 #[derive(Clone, Copy, Debug, Eq, PartialEq)]
@@ -28,12 +33,12 @@ pub enum Job {
 }
 
 /// Random words and odd heads: where the fields begin.
-fn places<T: Width>(order: u8, length: usize) -> Vec<Row> {
+fn places<T: Width>(order: Order, length: usize) -> Vec<Row> {
     let mut random = Random::new(9);
     let width = <T as Plain>::WIDTH as u64;
     let mut place = || Row {
         order,
-        word: random.upto(WORDS as u64 - 10) as usize,
+        word: random.upto((WORDS - MOST_WORDS_OF_A_FIELD) as u64 - 1) as usize,
         head: (2 * random.upto(width / 2 - 1) + 1) as usize,
         length,
     };
@@ -41,13 +46,13 @@ fn places<T: Width>(order: u8, length: usize) -> Vec<Row> {
 }
 
 /// The contest of a load or store of fields of K bits, all of them used.
-pub fn contest<T: Width>(job: Job, order: u8, kind: Kind) -> Contest<T> {
+pub fn contest<T: Width>(job: Job, order: Order, kind: Kind) -> Contest<T> {
     let places = places::<T>(order, kind.k);
     let bitvec = match (job, order) {
-        (Job::Load, 0) => bitvec_load::<T, Lsb0>(places.clone(), kind),
-        (Job::Load, _) => bitvec_load::<T, Msb0>(places.clone(), kind),
-        (Job::Store, 0) => bitvec_store::<T, Lsb0>(places.clone(), kind),
-        (Job::Store, _) => bitvec_store::<T, Msb0>(places.clone(), kind),
+        (Job::Load, Order::Lsb0) => bitvec_load::<T, Lsb0>(places.clone(), kind),
+        (Job::Load, Order::Msb0) => bitvec_load::<T, Msb0>(places.clone(), kind),
+        (Job::Store, Order::Lsb0) => bitvec_store::<T, Lsb0>(places.clone(), kind),
+        (Job::Store, Order::Msb0) => bitvec_store::<T, Msb0>(places.clone(), kind),
     };
     let mut works = vec![
         (Who::Library, by_calls::<T, T::Library>(job, places.clone(), kind)),
@@ -60,14 +65,13 @@ pub fn contest<T: Width>(job: Job, order: u8, kind: Kind) -> Contest<T> {
 
 /// The same of Lsb0 le fields, unsigned, taken by Rattle code that knows so much of them, all in one call.
 pub fn known_contest<T: Width>(job: Job, k: usize) -> Contest<T> {
-    let kind = Kind { k, significance: 0, sign: 0 };
-    let places = places::<T>(0, k);
+    let kind = Kind { k, significance: Significance::Le, sign: Sign::Unsigned };
+    let places = places::<T>(Order::Lsb0, k);
     let (at, heads): (Vec<usize>, Vec<usize>) = places.iter().map(|row| (row.word, row.head)).unzip();
     let (library, bitvec): (Work<T>, Work<T>) = match job {
-        Job::Load => (
-            Box::new(move |buffers| T::known_loads(&buffers.left, &at, &heads, k)),
-            bitvec_load::<T, Lsb0>(places, kind),
-        ),
+        Job::Load => {
+            (Box::new(move |buffers| T::known_loads(&buffers.left, &at, &heads, k)), bitvec_load::<T, Lsb0>(places, kind))
+        }
         Job::Store => (
             Box::new(move |buffers| {
                 T::known_stores(&mut buffers.left, &at, &heads, k, black_box(0x5A));
@@ -76,11 +80,7 @@ pub fn known_contest<T: Width>(job: Job, k: usize) -> Contest<T> {
             bitvec_store::<T, Lsb0>(places, kind),
         ),
     };
-    Contest {
-        buffers: Buffers::random(WORDS),
-        works: vec![(Who::Library, library), (Who::Bitvec, bitvec)],
-        repeat: FIELDS,
-    }
+    Contest { buffers: Buffers::random(WORDS), works: vec![(Who::Library, library), (Who::Bitvec, bitvec)], repeat: FIELDS }
 }
 
 /// Takes all fields; answers a mix of their numbers.
@@ -108,21 +108,20 @@ fn by_calls<T: Width, C: Calls<T>>(job: Job, places: Vec<Row>, kind: Kind) -> Wo
 
 /// The work of fields by hand, with every refusal.
 fn by_hand<T: Width>(job: Job, places: Vec<Row>, kind: Kind, calls: Checked<T>) -> Work<T> {
-    let Kind { k, significance, sign } = kind;
+    let (k, significance, sign) = (kind.k, kind.significance as u8, kind.sign as u8);
     match job {
         Job::Load => each_load(places, move |words: &[T], row| {
             let (mut out, lent) = (0, words.len());
             let Row { order, word, head, length } = row;
             let load = calls.load;
-            let code =
-                unsafe { load(words.as_ptr(), lent, order, word, head, length, k, significance, sign, &mut out) };
+            let code = unsafe { load(words.as_ptr(), lent, order as u8, word, head, length, k, significance, sign, &mut out) };
             out | done(code)
         }),
         Job::Store => each_store(places, move |words: &mut [T], row, value| {
             let (pointer, lent) = (words.as_mut_ptr(), words.len());
             let Row { order, word, head, length } = row;
             let store = calls.store;
-            unsafe { store(pointer, lent, order, word, head, length, k, significance, sign, 0, value) };
+            unsafe { store(pointer, lent, order as u8, word, head, length, k, significance, sign, 0, value) };
         }),
     }
 }
@@ -132,14 +131,14 @@ fn by_hand<T: Width>(job: Job, places: Vec<Row>, kind: Kind, calls: Checked<T>) 
 macro_rules! by_kind {
     ($kind:expr, $each:ident, $le:ident, $be:ident) => {
         match ($kind.k, $kind.sign, $kind.significance) {
-            (8, 0, 0) => $each!(u8, $le),
-            (8, 0, _) => $each!(u8, $be),
-            (8, _, 0) => $each!(i8, $le),
-            (8, _, _) => $each!(i8, $be),
-            (_, 0, 0) => $each!(u64, $le),
-            (_, 0, _) => $each!(u64, $be),
-            (_, _, 0) => $each!(i64, $le),
-            (_, _, _) => $each!(i64, $be),
+            (8, Sign::Unsigned, Significance::Le) => $each!(u8, $le),
+            (8, Sign::Unsigned, Significance::Be) => $each!(u8, $be),
+            (8, Sign::Signed, Significance::Le) => $each!(i8, $le),
+            (8, Sign::Signed, Significance::Be) => $each!(i8, $be),
+            (_, Sign::Unsigned, Significance::Le) => $each!(u64, $le),
+            (_, Sign::Unsigned, Significance::Be) => $each!(u64, $be),
+            (_, Sign::Signed, Significance::Le) => $each!(i64, $le),
+            (_, Sign::Signed, Significance::Be) => $each!(i64, $be),
         }
     };
 }

@@ -1,5 +1,7 @@
 //! One measured line: figures, ratios, bars.
 
+use model::Order;
+
 use crate::contest::{Times, Who};
 
 /// What a line belongs to.
@@ -16,6 +18,7 @@ pub enum Part {
 }
 
 impl Part {
+    /// All of them, in the order in which they are shown.
     pub const ALL: [Part; 8] = [
         Part::Fields,
         Part::KnownFields,
@@ -73,7 +76,7 @@ pub struct Line {
     pub part: Part,
     pub job: &'static str,
     pub width: usize,
-    pub order: u8,
+    pub order: Order,
     /// The words of the row's buffer.
     pub words: usize,
     /// The bits that the job is about.
@@ -109,7 +112,10 @@ impl Line {
 
     /// The order's name.
     pub fn order_name(&self) -> &'static str {
-        ["Lsb0", "Msb0"][self.order as usize]
+        match self.order {
+            Order::Lsb0 => "Lsb0",
+            Order::Msb0 => "Msb0",
+        }
     }
 
     /// The bars with what became of them.

@@ -12,6 +12,7 @@ use std::{
 
 use line::{Line, Part};
 use measures::{measure, Effort, LONGEST};
+use model::Order;
 
 mod alike;
 mod contest;
@@ -47,7 +48,9 @@ fn main() -> ExitCode {
     ExitCode::SUCCESS
 }
 
+/// What the figures of docs/ are measured with.
 const FULL: Effort = Effort { passes: 8, rounds: 15, all_lengths: true };
+/// What shows that the benchmark runs.
 const QUICK: Effort = Effort { passes: 1, rounds: 5, all_lengths: false };
 
 /// Everything measured once.
@@ -85,7 +88,7 @@ fn renew(docs: &Path, lines: &[Line]) {
     let machine = format!("Measured on: {}.\n\n", processor());
     let text = [&before, BEGIN, &machine, &table::markdown(lines), END, &after].concat();
     let shown =
-        |line: &&Line| matches!(line.part, Part::Rows | Part::Searches) && line.words == LONGEST && line.order == 0;
+        |line: &&Line| matches!(line.part, Part::Rows | Part::Searches) && line.words == LONGEST && line.order == Order::Lsb0;
     let shown: Vec<&Line> = lines.iter().filter(shown).collect();
     fs::write(docs.join("BENCHMARKS.md"), text).expect("BENCHMARKS.md to be writable");
     fs::write(docs.join("benchmarks.svg"), picture::svg(&shown)).expect("the picture to be writable");

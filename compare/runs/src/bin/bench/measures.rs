@@ -1,5 +1,11 @@
 //! What is measured, and the bars it is held to.
 
+use model::{
+    Order,
+    Sign::{Signed, Unsigned},
+    Significance::{Be, Le},
+    AND, OR, XOR,
+};
 use runs::call::Call;
 
 use crate::{
@@ -15,8 +21,11 @@ use crate::{
 /// How much is measured.
 #[derive(Clone, Copy, PartialEq)]
 pub struct Effort {
+    /// How often everything is measured, of which the best times are kept.
     pub passes: usize,
+    /// How often each contestant is timed in a pass.
     pub rounds: usize,
+    /// Whether shorter rows than the longest are measured too.
     pub all_lengths: bool,
 }
 
@@ -25,9 +34,9 @@ pub const LONGEST: usize = 1 << 16;
 
 /// Measures everything at one width.
 pub fn measure<T: Width>(lines: &mut Vec<Line>, effort: Effort) {
-    for order in 0..2 {
+    for order in [Order::Lsb0, Order::Msb0] {
         fields::<T>(lines, effort, order);
-        if order == 0 {
+        if order == Order::Lsb0 {
             known_fields::<T>(lines, effort);
         }
         short_rows::<T>(lines, effort, order);
@@ -64,17 +73,19 @@ fn bar(against: Who, at_least: f64) -> Bar {
 const NEARLY_PLAIN: f64 = 1.0 / 1.5;
 
 /// Loads and stores of fields at odd heads.
-fn fields<T: Width>(lines: &mut Vec<Line>, effort: Effort, order: u8) {
-    for (k, significance, sign) in [8, 64].into_iter().flat_map(|k| [(k, 0, 0), (k, 1, 0), (k, 0, 1), (k, 1, 1)]) {
+fn fields<T: Width>(lines: &mut Vec<Line>, effort: Effort, order: Order) {
+    for (k, significance, sign) in
+        [8, 64].into_iter().flat_map(|k| [(k, Le, Unsigned), (k, Be, Unsigned), (k, Le, Signed), (k, Be, Signed)])
+    {
         let kind = Kind { k, significance, sign };
         let mut measure = |job, name, wide, narrow| {
             let times = fields::contest::<T>(job, order, kind).run(effort.rounds);
             let bars = vec![bar(Who::Bitvec, if size_of::<T>() == 8 { wide } else { narrow })];
             let width = <T as Plain>::WIDTH;
-            lines.push(Line { part: Part::Fields, job: name, width, order, words: 8192, bits: k, times, bars });
+            lines.push(Line { part: Part::Fields, job: name, width, order, words: fields::WORDS, bits: k, times, bars });
         };
         measure(fields::Job::Load, field_name("load", kind), 1.3, 1.6);
-        if sign == 0 {
+        if sign == Unsigned {
             measure(fields::Job::Store, field_name("store", kind), 1.1, 1.3);
         }
     }
@@ -90,14 +101,23 @@ fn known_fields<T: Width>(lines: &mut Vec<Line>, effort: Effort) {
     ] {
         let times = fields::known_contest::<T>(job, k).run(effort.rounds);
         let (width, bars) = (<T as Plain>::WIDTH, vec![bar(Who::Bitvec, 2.0)]);
-        lines.push(Line { part: Part::KnownFields, job: name, width, order: 0, words: 8192, bits: k, times, bars });
+        lines.push(Line {
+            part: Part::KnownFields,
+            job: name,
+            width,
+            order: Order::Lsb0,
+            words: fields::WORDS,
+            bits: k,
+            times,
+            bars,
+        });
     }
 }
 
 /// A field job's name, as "load u8 le".
 fn field_name(job: &str, kind: Kind) -> &'static str {
-    let sign = ["u", "i"][kind.sign as usize];
-    let significance = ["le", "be"][kind.significance as usize];
+    let sign = if kind.sign == Unsigned { "u" } else { "i" };
+    let significance = if kind.significance == Le { "le" } else { "be" };
     format!("{job} {sign}{} {significance}", kind.k).leak()
 }
 
@@ -108,11 +128,11 @@ const ROWS: [(&str, Job, bool, f64); 14] = [
     ("copy_within up by 64", Job::CopyUp(64), true, 8.0),
     ("copy_within up by 13", Job::CopyUp(13), false, 8.0),
     ("copy_within down by 13", Job::CopyDown(13), false, 8.0),
-    ("and, equal heads", Job::Boolean(8), true, 15.0),
-    ("and, differing heads", Job::Boolean(8), false, 15.0),
-    ("or, equal heads", Job::Boolean(14), true, 15.0),
-    ("or, differing heads", Job::Boolean(14), false, 15.0),
-    ("xor, differing heads", Job::Boolean(6), false, 15.0),
+    ("and, equal heads", Job::Boolean(AND), true, 15.0),
+    ("and, differing heads", Job::Boolean(AND), false, 15.0),
+    ("or, equal heads", Job::Boolean(OR), true, 15.0),
+    ("or, differing heads", Job::Boolean(OR), false, 15.0),
+    ("xor, differing heads", Job::Boolean(XOR), false, 15.0),
     ("swap, equal heads", Job::Swap, true, 15.0),
     ("swap, differing heads", Job::Swap, false, 15.0),
     ("equal, equal heads", Job::Equal, true, 20.0),
@@ -120,7 +140,7 @@ const ROWS: [(&str, Job, bool, f64); 14] = [
 ];
 
 /// A job on a row of so many bits, the left row and the right one at these heads.
-fn task(job: Job, heads: (usize, usize), order: u8, length: usize) -> Task {
+fn task(job: Job, heads: (usize, usize), order: Order, length: usize) -> Task {
     let left = Row { order, word: 0, head: heads.0, length };
     Task { job, left, right: Row { head: heads.1, ..left } }
 }
@@ -131,7 +151,7 @@ fn row_heads(equal: bool) -> (usize, usize) {
 }
 
 /// All row jobs on buffers of so many words.
-fn long_rows<T: Width>(lines: &mut Vec<Line>, effort: Effort, order: u8, words: usize) {
+fn long_rows<T: Width>(lines: &mut Vec<Line>, effort: Effort, order: Order, words: usize) {
     let width = <T as Plain>::WIDTH;
     for (name, job, equal_heads, of_bitvec) in ROWS {
         let task = task(job, row_heads(equal_heads), order, (words - 1) * width);
@@ -148,7 +168,7 @@ fn long_rows<T: Width>(lines: &mut Vec<Line>, effort: Effort, order: u8, words: 
 }
 
 /// All row jobs on 100 bits.
-fn short_rows<T: Width>(lines: &mut Vec<Line>, effort: Effort, order: u8) {
+fn short_rows<T: Width>(lines: &mut Vec<Line>, effort: Effort, order: Order) {
     let width = <T as Plain>::WIDTH;
     for (name, job, equal_heads, _) in ROWS {
         let task = task(job, row_heads(equal_heads), order, 100);
@@ -171,7 +191,7 @@ struct Planned {
 }
 
 /// Copies inside, up and down, by each distance.
-fn inside<T: Width>(order: u8) -> Vec<Planned> {
+fn inside<T: Width>(order: Order) -> Vec<Planned> {
     let length = (LONGEST - 1) * <T as Plain>::WIDTH;
     let fast = Bar { or_rate: Some(6.0), ..bar(Who::Eight, 0.5) };
     let planned = |way: &str, by: usize, job: Job| Planned {
@@ -186,9 +206,9 @@ fn inside<T: Width>(order: u8) -> Vec<Planned> {
 }
 
 /// The jobs with two rows, at each pair of heads.
-fn heads<T: Width>(order: u8) -> Vec<Planned> {
+fn heads<T: Width>(order: Order) -> Vec<Planned> {
     let width = <T as Plain>::WIDTH;
-    let jobs = [("copy_from", Job::CopyFrom), ("and", Job::Boolean(8)), ("swap", Job::Swap), ("equal", Job::Equal)];
+    let jobs = [("copy_from", Job::CopyFrom), ("and", Job::Boolean(AND)), ("swap", Job::Swap), ("equal", Job::Equal)];
     let pairs = [("0/0", 0, 0), ("3/3", 3, 3), ("0/1", 0, 1), ("3/5", 3, 5), ("5/3", 5, 3), ("W-1/0", width - 1, 0)];
     let planned = |(name, job): (&str, Job)| {
         pairs.map(|(pair, left, right)| Planned {
@@ -212,6 +232,7 @@ fn across<T: Width>(lines: &mut Vec<Line>, effort: Effort, planned: Vec<Planned>
     }
 }
 
+/// The searches and their names.
 const SEARCHES: [(&str, Call); 4] = [
     ("first_one", Call::FirstOne),
     ("last_one", Call::LastOne),
@@ -220,7 +241,7 @@ const SEARCHES: [(&str, Call); 4] = [
 ];
 
 /// All searches of a row whose only bit they come to last.
-fn far_searches<T: Width>(lines: &mut Vec<Line>, effort: Effort, order: u8, words: usize) {
+fn far_searches<T: Width>(lines: &mut Vec<Line>, effort: Effort, order: Order, words: usize) {
     let width = <T as Plain>::WIDTH;
     let row = Row { order, word: 0, head: 3, length: (words - 1) * width };
     for (name, call) in SEARCHES {
@@ -235,7 +256,7 @@ fn far_searches<T: Width>(lines: &mut Vec<Line>, effort: Effort, order: u8, word
 }
 
 /// All searches of a row whose only bit they see at once.
-fn first_word_searches<T: Width>(lines: &mut Vec<Line>, effort: Effort, order: u8) {
+fn first_word_searches<T: Width>(lines: &mut Vec<Line>, effort: Effort, order: Order) {
     let width = <T as Plain>::WIDTH;
     let row = Row { order, word: 0, head: 3, length: (LONGEST - 1) * width };
     for (name, call) in SEARCHES {
@@ -243,15 +264,6 @@ fn first_word_searches<T: Width>(lines: &mut Vec<Line>, effort: Effort, order: u
         contest.works.retain(|(who, _)| *who != Who::Memory);
         let times = contest.run(effort.rounds);
         let bars = vec![bar(Who::Plain, NEARLY_PLAIN)];
-        lines.push(Line {
-            part: Part::FirstWord,
-            job: name,
-            width,
-            order,
-            words: LONGEST,
-            bits: row.length,
-            times,
-            bars,
-        });
+        lines.push(Line { part: Part::FirstWord, job: name, width, order, words: LONGEST, bits: row.length, times, bars });
     }
 }

@@ -7,9 +7,13 @@ use crate::{
     line::{name, Line},
 };
 
+/// Where bars begin, left of which the jobs are named.
 const LEFT: f64 = 250.0;
+/// How long the longest bar is.
 const WIDE: f64 = 620.0;
+/// How high a bar is.
 const BAR: f64 = 7.0;
+/// What lies between the bars of two jobs.
 const GAP: f64 = 8.0;
 /// The rates at the axis' ends, in GB/s. The axis is logarithmic.
 const LEAST: f64 = 0.1;
@@ -47,8 +51,7 @@ pub fn svg(lines: &[&Line]) -> String {
     legend(&mut svg, lines);
     for rate in [0.1, 0.3, 1.0, 3.0, 10.0, 30.0, 100.0] {
         let x = across(rate);
-        writeln!(svg, "<line x1=\"{x:.1}\" y1=\"{top}\" x2=\"{x:.1}\" y2=\"{:.1}\" stroke=\"#dddddd\"/>", high - 15.0)
-            .unwrap();
+        writeln!(svg, "<line x1=\"{x:.1}\" y1=\"{top}\" x2=\"{x:.1}\" y2=\"{:.1}\" stroke=\"#dddddd\"/>", high - 15.0).unwrap();
         writeln!(svg, "<text x=\"{x:.1}\" y=\"{:.1}\" text-anchor=\"middle\">{rate}</text>", high - 3.0).unwrap();
     }
     let mut y = top;
@@ -65,19 +68,10 @@ pub fn svg(lines: &[&Line]) -> String {
         for who in Who::ALL {
             let Some(rate) = line.figure(who) else { continue };
             let (wide, fill) = (across(rate) - LEFT, colour(who));
-            writeln!(
-                svg,
-                "<rect x=\"{LEFT}\" y=\"{y:.1}\" width=\"{wide:.1}\" height=\"{}\" fill=\"{fill}\"/>",
-                BAR - 1.0
-            )
-            .unwrap();
-            writeln!(
-                svg,
-                "<text x=\"{:.1}\" y=\"{:.1}\" font-size=\"7\">{rate:.1}</text>",
-                LEFT + wide + 3.0,
-                y + BAR - 1.0
-            )
-            .unwrap();
+            writeln!(svg, "<rect x=\"{LEFT}\" y=\"{y:.1}\" width=\"{wide:.1}\" height=\"{}\" fill=\"{fill}\"/>", BAR - 1.0)
+                .unwrap();
+            writeln!(svg, "<text x=\"{:.1}\" y=\"{:.1}\" font-size=\"7\">{rate:.1}</text>", LEFT + wide + 3.0, y + BAR - 1.0)
+                .unwrap();
             y += BAR;
         }
         y += GAP;

@@ -5,6 +5,7 @@ use bitvec::{
     order::{BitOrder, Lsb0, Msb0},
     slice::BitSlice,
 };
+use model::{Order, AND, OR, XOR};
 
 use crate::{
     contest::{times, writes, Buffers, Contest, Who, Work},
@@ -60,8 +61,8 @@ pub fn contest<T: Width>(task: Task, buffers: Buffers<T>, repeat: usize) -> Cont
         T::PlainRust::copy_from(&mut buffers.right, task.right, &buffers.left, task.left);
     }
     let bitvec = match task.left.order {
-        0 => bitvec::<T, Lsb0>(task, repeat),
-        _ => bitvec::<T, Msb0>(task, repeat),
+        Order::Lsb0 => bitvec::<T, Lsb0>(task, repeat),
+        Order::Msb0 => bitvec::<T, Msb0>(task, repeat),
     };
     let mut works = vec![
         (Who::Library, by_calls::<T, T::Library>(task, repeat)),
@@ -105,12 +106,12 @@ where
     let (start, count, destination) = task.ranges();
     match job {
         Job::CopyFrom => writes(repeat, move |b| left.see_mut::<T, O>(&mut b.left).copy_from(right.see(&b.right))),
-        Job::CopyUp(_) | Job::CopyDown(_) => writes(repeat, move |b| unsafe {
-            left.see_mut::<T, O>(&mut b.left).copy_within(start..start + count, destination)
-        }),
-        Job::Boolean(8) => writes(repeat, move |b| left.see_mut::<T, O>(&mut b.left).bitop::<8>(right.see(&b.right))),
-        Job::Boolean(14) => writes(repeat, move |b| left.see_mut::<T, O>(&mut b.left).bitop::<14>(right.see(&b.right))),
-        Job::Boolean(_) => writes(repeat, move |b| left.see_mut::<T, O>(&mut b.left).bitop::<6>(right.see(&b.right))),
+        Job::CopyUp(_) | Job::CopyDown(_) => {
+            writes(repeat, move |b| unsafe { left.see_mut::<T, O>(&mut b.left).copy_within(start..start + count, destination) })
+        }
+        Job::Boolean(AND) => writes(repeat, move |b| left.see_mut::<T, O>(&mut b.left).bitop::<AND>(right.see(&b.right))),
+        Job::Boolean(OR) => writes(repeat, move |b| left.see_mut::<T, O>(&mut b.left).bitop::<OR>(right.see(&b.right))),
+        Job::Boolean(_) => writes(repeat, move |b| left.see_mut::<T, O>(&mut b.left).bitop::<XOR>(right.see(&b.right))),
         Job::Swap => writes(repeat, move |b| left.see_mut::<T, O>(&mut b.left).swap(right.see_mut(&mut b.right))),
         Job::Equal => times(repeat, move |b| left.see::<T, O>(&b.left).same(right.see(&b.right)) as u64),
     }

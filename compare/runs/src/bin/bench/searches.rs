@@ -27,17 +27,12 @@ pub fn contest<T: Width>(call: Call, row: Row, words: usize, bit: Bit, repeat: u
     let first = matches!(call, Call::FirstOne | Call::FirstZero);
     let at_the_end = first == (bit == Bit::FarEnd);
     let index = if at_the_end { row.length - 2 } else { 1 };
-    let span = model::Span {
-        order: if row.order == 0 { model::Order::Lsb0 } else { model::Order::Msb0 },
-        word: row.word as u64,
-        head: row.head as u64,
-        length: row.length as u64,
-    };
+    let span = model::Span { order: row.order, word: row.word as u64, head: row.head as u64, length: row.length as u64 };
     let mut left = vec![if zeros { T::ALL_ONES } else { T::of(0) }; words];
     model::set_bit_of(&mut left, span, index as u64, !zeros);
     let bitvec = match row.order {
-        0 => bitvec::<T, Lsb0>(call, row, repeat),
-        _ => bitvec::<T, Msb0>(call, row, repeat),
+        model::Order::Lsb0 => bitvec::<T, Lsb0>(call, row, repeat),
+        model::Order::Msb0 => bitvec::<T, Msb0>(call, row, repeat),
     };
     let works = vec![
         (Who::Library, by_calls::<T, T::Library>(call, row, repeat)),
@@ -77,6 +72,7 @@ where
 }
 
 extern "C" {
+    /// C's.
     fn memchr(bytes: *const u8, byte: i32, count: usize) -> *const u8;
 }
 

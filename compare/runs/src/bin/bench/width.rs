@@ -5,6 +5,7 @@ use bitvec::{
     order::BitOrder,
     slice::BitSlice,
 };
+use model::{Order, Sign, Significance};
 use runs::{call::Call, lent::Lent};
 
 use crate::plain::{self, Plain};
@@ -12,7 +13,7 @@ use crate::plain::{self, Plain};
 /// A span of a buffer.
 #[derive(Clone, Copy)]
 pub struct Row {
-    pub order: u8,
+    pub order: Order,
     pub word: usize,
     pub head: usize,
     pub length: usize,
@@ -34,8 +35,8 @@ impl Row {
 #[derive(Clone, Copy)]
 pub struct Kind {
     pub k: usize,
-    pub significance: u8,
-    pub sign: u8,
+    pub significance: Significance,
+    pub sign: Sign,
 }
 
 /// The library's calls.
@@ -50,16 +51,21 @@ pub struct Checked<T> {
     pub store: unsafe extern "C" fn(*mut T, usize, u8, usize, usize, usize, usize, u8, u8, u8, u64) -> u8,
 }
 
+/// A copy inside a row: its words, the row, start, count and destination. It answers as `Calls` says.
+pub type CopyWithin<T> = fn(&mut [T], Row, usize, usize, usize) -> u64;
+
 /// A word's type with both.
 pub trait Width: Lent + Plain {
+    /// Who calls the library.
     type Library: Calls<Self>;
+    /// Who calls plain Rust.
     type PlainRust: Calls<Self>;
 
     /// Fields by hand with every refusal, where that is written.
     const CHECKED: Option<Checked<Self>>;
 
-    /// Copy inside by plain Rust that takes eight bytes at once, where a word has fewer: as `Calls` has it.
-    const BY_EIGHT: Option<fn(&mut [Self], Row, usize, usize, usize) -> u64>;
+    /// Copy inside by plain Rust that takes eight bytes at once, where a word has fewer.
+    const BY_EIGHT: Option<CopyWithin<Self>>;
 
     /// The fields of k bits that begin at a head of a word each, loaded by Rattle code: a mix of their numbers.
     fn known_loads(words: &[Self], places: &[usize], heads: &[usize], k: usize) -> u64;
@@ -68,6 +74,7 @@ pub trait Width: Lent + Plain {
     fn known_stores(words: &mut [Self], places: &[usize], heads: &[usize], k: usize, value: u64);
 }
 
+/// Gives a word's type what `Width` asks for.
 macro_rules! width {
     ($word:ty, $loads:path, $stores:path, $checked:expr, $by_eight:expr) => {
         impl Width for $word {
@@ -75,7 +82,7 @@ macro_rules! width {
             type PlainRust = PlainRust;
 
             const CHECKED: Option<Checked<$word>> = $checked;
-            const BY_EIGHT: Option<fn(&mut [$word], Row, usize, usize, usize) -> u64> = $by_eight;
+            const BY_EIGHT: Option<CopyWithin<$word>> = $by_eight;
 
             fn known_loads(words: &[$word], places: &[usize], heads: &[usize], k: usize) -> u64 {
                 let mut mix = 0;
@@ -116,18 +123,21 @@ pub fn done(code: u8) -> u64 {
     }
 }
 
+/// A call on one row, and what else it takes.
 macro_rules! one {
     ($name:path, $pointer:expr, $lent:expr, $row:expr $(, $rest:expr)*) => {
-        unsafe { $name($pointer, $lent, $row.order, $row.word, $row.head, $row.length $(, $rest)*) }
+        unsafe { $name($pointer, $lent, $row.order as u8, $row.word, $row.head, $row.length $(, $rest)*) }
     };
 }
 
+/// A call on two rows, and what else it takes.
 macro_rules! two {
     ($name:path, $pointer:expr, $lent:expr, $row:expr, $second:expr, $second_lent:expr, $from:expr $(, $rest:expr)*) => {
-        one!($name, $pointer, $lent, $row, $second, $second_lent, $from.order, $from.word, $from.head, $from.length $(, $rest)*)
+        one!($name, $pointer, $lent, $row, $second, $second_lent, $from.order as u8, $from.word, $from.head, $from.length $(, $rest)*)
     };
 }
 
+/// Gives one of the two its calls on one type of word, from the module that has them.
 macro_rules! calls {
     ($whose:ty, $word:ty, $calls:path) => {
         const _: () = {
@@ -137,14 +147,15 @@ macro_rules! calls {
                 #[inline(always)]
                 fn load(words: &[$word], row: Row, kind: Kind) -> u64 {
                     let (mut out, pointer, lent) = (0, words.as_ptr(), words.len());
-                    let code = one!(calls::load, pointer, lent, row, kind.k, kind.significance, kind.sign, &mut out);
+                    let code =
+                        one!(calls::load, pointer, lent, row, kind.k, kind.significance as u8, kind.sign as u8, &mut out);
                     out | done(code)
                 }
 
                 #[inline(always)]
                 fn store(words: &mut [$word], row: Row, kind: Kind, value: u64) -> u64 {
                     let (pointer, lent) = (words.as_mut_ptr(), words.len());
-                    done(one!(calls::store, pointer, lent, row, kind.k, kind.significance, kind.sign, 0, value))
+                    done(one!(calls::store, pointer, lent, row, kind.k, kind.significance as u8, kind.sign as u8, 0, value))
                 }
 
                 #[inline(always)]

@@ -2,13 +2,15 @@
 
 use std::slice::{from_raw_parts, from_raw_parts_mut};
 
-use super::{eight, fields, rows, searches, Plain};
+use model::{AND, OR};
+
+use super::{eight, fields, rows, searches, Plain, LE, LSB0, UNSIGNED};
 
 /// Calls a function of the order with it as a constant.
 macro_rules! by_order {
     ($order:expr, $function:ident :: $name:ident, [$($word:ty)? $(, $known:literal)*], ($($argument:expr),*)) => {
         match $order {
-            0 => $function::$name::<$($word,)? false $(, $known)*>($($argument),*),
+            LSB0 => $function::$name::<$($word,)? false $(, $known)*>($($argument),*),
             _ => $function::$name::<$($word,)? true $(, $known)*>($($argument),*),
         }
     };
@@ -94,6 +96,7 @@ macro_rules! inside {
     };
 }
 
+/// All calls on one type of word.
 macro_rules! calls {
     ($word:ty) => {
         use super::*;
@@ -116,8 +119,8 @@ macro_rules! calls {
             let place = word * <$word>::WIDTH + head;
             let words = from_raw_parts(words, lent);
             *out = match significance {
-                0 => by_order!(order, fields::load, [$word, false], (words, place, length, sign == 1)),
-                _ => by_order!(order, fields::load, [$word, true], (words, place, length, sign == 1)),
+                LE => by_order!(order, fields::load, [$word, false], (words, place, length, sign != UNSIGNED)),
+                _ => by_order!(order, fields::load, [$word, true], (words, place, length, sign != UNSIGNED)),
             };
             0
         }
@@ -139,7 +142,7 @@ macro_rules! calls {
             let place = word * <$word>::WIDTH + head;
             let words = from_raw_parts_mut(words, lent);
             match significance {
-                0 => by_order!(order, fields::store, [$word, false], (words, place, length, value)),
+                LE => by_order!(order, fields::store, [$word, false], (words, place, length, value)),
                 _ => by_order!(order, fields::store, [$word, true], (words, place, length, value)),
             }
             0
@@ -157,8 +160,8 @@ macro_rules! calls {
         two_rows!(
             boolean, *mut Word, from_raw_parts_mut, *const Word, from_raw_parts, (operation: u8),
             |words, at, right, from, order, length, _right_length| match operation {
-                8 => by_order!(order, rows::join, [Word], (words, at, right, from, length, |a, b| a & b)),
-                14 => by_order!(order, rows::join, [Word], (words, at, right, from, length, |a, b| a | b)),
+                AND => by_order!(order, rows::join, [Word], (words, at, right, from, length, |a, b| a & b)),
+                OR => by_order!(order, rows::join, [Word], (words, at, right, from, length, |a, b| a | b)),
                 _ => by_order!(order, rows::join, [Word], (words, at, right, from, length, |a, b| a ^ b)),
             }
         );

@@ -1,32 +1,39 @@
 //! Fields of 64-bit words by hand, unproved, with every refusal of the exported calls: how fast such a call can be made
 //! without a proof. The usual request is seen first; what is refused is looked at again, row by row, out of the way.
 
+use model::refusals::*;
+use runs::call::NO_CODE;
+
+use super::{LE, LSB0, UNSIGNED};
+
+const MOST_WORDS: usize = model::MOST_WORDS as usize;
+
 /// Why a field is refused, given that it is.
 #[cold]
 #[inline(never)]
 fn reason(lent: usize, word: usize, head: usize, length: usize, k: usize, codes: u8) -> u8 {
     let outside = word > lent || (lent - word).saturating_mul(64) < head.saturating_add(length);
     if codes > 1 {
-        255
-    } else if lent > 65_536 {
-        1
+        NO_CODE
+    } else if lent > MOST_WORDS {
+        TOO_MANY_WORDS
     } else if head > 63 {
-        2
+        INDEX_TOO_LARGE
     } else if outside {
-        3
+        OUT_OF_BOUNDS
     } else if ![8, 16, 32, 64].contains(&k) {
-        4
+        NO_SUCH_K
     } else if length == 0 || length > k {
-        5
+        FIELD_LENGTH
     } else {
-        8
+        NOT_AN_INTEGER
     }
 }
 
 /// Whether the codes, K, the length and the first word are right.
 #[inline(always)]
 fn is_begun(lent: usize, word: usize, length: usize, k: usize, codes: u8) -> bool {
-    codes <= 1 && length.wrapping_sub(1) < k && k & 120 != 0 && k & (k - 1) == 0 && word < lent && lent <= 65_536
+    codes <= 1 && length.wrapping_sub(1) < k && k & 120 != 0 && k & (k - 1) == 0 && word < lent && lent <= MOST_WORDS
 }
 
 /// Whether a field that goes past its first word is refused for its head, or for want of a second word.
@@ -70,7 +77,7 @@ field_call! {
         }
         let rest = 64 - length;
         let number = if head <= rest {
-            *words.add(word) << if order == 0 { rest - head } else { head } >> rest
+            *words.add(word) << if order == LSB0 { rest - head } else { head } >> rest
         } else {
             if is_cut_off(lent, word, head) {
                 return reason(lent, word, head, length, k, codes);
@@ -78,16 +85,16 @@ field_call! {
             let (first, next) = (*words.add(word), *words.add(word + 1));
             let (room, over) = (64 - head, head - rest);
             let (a, b) = match order {
-                0 => (first >> head, next << (64 - over) >> (64 - over)),
+                LSB0 => (first >> head, next << (64 - over) >> (64 - over)),
                 _ => (first << head >> head, next >> (64 - over)),
             };
             match significance {
-                0 => b << room | a,
-                _ => a << over | b,
+                LE => (b << room) | a,
+                _ => (a << over) | b,
             }
         };
         *out = match sign {
-            0 => number,
+            UNSIGNED => number,
             _ => ((number << rest) as i64 >> rest) as u64,
         };
         0
@@ -103,15 +110,15 @@ field_call! {
             return reason(lent, word, head, length, k, codes);
         }
         let left = value >> (k - 1);
-        if if sign == 0 { below == 1 || left > 1 } else { left > 0 } {
+        if if sign == UNSIGNED { below == 1 || left > 1 } else { left > 0 } {
             return reason(lent, word, head, length, k, codes);
         }
         let number = if below == 0 { value } else { !value };
         let rest = 64 - length;
         if head <= rest {
-            let by = if order == 0 { head } else { rest - head };
+            let by = if order == LSB0 { head } else { rest - head };
             let (place, mask) = (words.add(word), u64::MAX >> rest << by);
-            *place ^= (*place ^ number << by) & mask;
+            *place ^= (*place ^ (number << by)) & mask;
             return 0;
         }
         if is_cut_off(lent, word, head) {
@@ -120,15 +127,15 @@ field_call! {
         let (first, next) = (words.add(word), words.add(word + 1));
         let (room, over) = (64 - head, head - rest);
         let (a, b) = match significance {
-            0 => (number, number >> room),
+            LE => (number, number >> room),
             _ => (number >> over, number),
         };
-        if order == 0 {
-            *first ^= (*first ^ a << head) & u64::MAX << head;
-            *next ^= (*next ^ b) & u64::MAX >> (64 - over);
+        if order == LSB0 {
+            *first ^= (*first ^ (a << head)) & (u64::MAX << head);
+            *next ^= (*next ^ b) & (u64::MAX >> (64 - over));
         } else {
-            *first ^= (*first ^ a) & u64::MAX >> head;
-            *next ^= (*next ^ b << (64 - over)) & u64::MAX << (64 - over);
+            *first ^= (*first ^ a) & (u64::MAX >> head);
+            *next ^= (*next ^ (b << (64 - over))) & (u64::MAX << (64 - over));
         }
         0
     }

@@ -51,8 +51,8 @@ fn move_eights<const MSB0: bool>(bytes: &mut [u8], start: usize, target: usize, 
             let bits = read::<MSB0>(here);
             let moved = match by {
                 0 => bits,
-                _ if MSB0 => bits << by | u64::from(here.add(8).read()) >> (8 - by),
-                _ => bits >> by | u64::from(here.add(8).read()) << (64 - by),
+                _ if MSB0 => (bits << by) | (u64::from(here.add(8).read()) >> (8 - by)),
+                _ => (bits >> by) | (u64::from(here.add(8).read()) << (64 - by)),
             };
             write::<MSB0>(to, moved);
         }

@@ -27,7 +27,7 @@ pub fn load<T: Plain, const MSB0: bool, const BE: bool>(words: &[T], at: usize, 
         let head = (at + done) % T::WIDTH;
         let count = (T::WIDTH - head).min(length - done);
         let bits = word(words, (at + done) / T::WIDTH).wide();
-        let piece = bits >> lowest::<T, MSB0>(head, count) & ones(count);
+        let piece = (bits >> lowest::<T, MSB0>(head, count)) & ones(count);
         number |= piece << if BE { length - done - count } else { done };
         done += count;
     }

@@ -13,10 +13,14 @@ pub use calls::{w64, w8};
 
 use std::ops::{BitAnd, BitOr, BitXor};
 
+/// The codes of the C signatures that decide between two ways; any other code is the other way.
+const LSB0: u8 = model::Order::Lsb0 as u8;
+const LE: u8 = model::Significance::Le as u8;
+const UNSIGNED: u8 = model::Sign::Unsigned as u8;
+
 /// A word of plain Rust. Bits move along their indexes, in the order that `MSB0` says.
-pub trait Plain:
-    Copy + Eq + Default + BitAnd<Output = Self> + BitOr<Output = Self> + BitXor<Output = Self> + 'static
-{
+pub trait Plain: Copy + Eq + Default + BitAnd<Output = Self> + BitOr<Output = Self> + BitXor<Output = Self> + 'static {
+    /// Its bits.
     const WIDTH: usize;
 
     /// Each bit `by` indexes nearer to index 0; `by` is below the width.
@@ -41,6 +45,7 @@ pub trait Plain:
     }
 }
 
+/// Makes these types words.
 macro_rules! plain {
     ($($word:ty),+) => { $(
         impl Plain for $word {

@@ -1,13 +1,11 @@
 //! Which refusal comes first where several apply, that a refused call changes nothing, and what a refusal says of itself.
 
-mod calls;
-mod rules;
-
-use calls::assert_all;
-use rules::ORDERS;
 use stableply::Order::{Lsb0, Msb0};
 use stableply::Significance::{Be, Le};
-use stableply::{BitRow, IntegerKind, MOST_WORDS, Operation, Refusal, Span, Word};
+use stableply::{BitRow, IntegerKind, Operation, Refusal, Span, Word, MOST_WORDS};
+
+use crate::every_call::assert_all;
+use crate::tried::ORDERS;
 
 fn one_span<W: Word + Default>() {
     for order in ORDERS {
@@ -20,8 +18,7 @@ fn one_span<W: Word + Default>() {
 
 #[test]
 fn of_one_span_the_lowest_number() {
-    one_span::<u8>();
-    one_span::<u64>();
+    at_every_width!(one_span());
 }
 
 /// What the calls with two spans answer: copy_from, boolean, swap_with, equal. The rows are long enough to be refused 1.
@@ -64,8 +61,7 @@ fn two_spans<W: Word + Default>() {
 
 #[test]
 fn of_two_spans_the_first_ones_and_then_the_lowest_number() {
-    two_spans::<u8>();
-    two_spans::<u64>();
+    at_every_width!(two_spans());
 }
 
 fn fields<W: Word + Default>() {
@@ -98,8 +94,7 @@ fn fields<W: Word + Default>() {
 
 #[test]
 fn of_a_field_the_lowest_number() {
-    fields::<u8>();
-    fields::<u64>();
+    at_every_width!(fields());
 }
 
 /// A span that is refused is told before a place that would be.

@@ -1,14 +1,15 @@
 //! Copies, boolean calls, swap and equality on every pair of spans of a short row, and searches on every span.
 
-mod rules;
-
-use rules::{Sample, bit, mixed, put, rows, spans};
+use model::End;
 use stableply::{BitRow, Operation, Order, Span};
 
-/// Both rows of every pair of spans of one order whose lengths satisfy `fit`.
+use crate::rules::{self, bit, put};
+use crate::tried::{mixed, rows, spans, Sample};
+
+/// Tries both rows of every pair of spans of one order whose lengths satisfy `fit`.
 fn pairs<W: Sample>(fit: fn(usize, usize) -> bool, mut try_pair: impl FnMut(&[W], Span, &[W], Span)) {
     let spans = spans::<W>(2);
-    let rights = [mixed(2, 3), vec![W::narrow(u64::MAX); 2]];
+    let rights = [mixed(2, 3), vec![W::of(u64::MAX); 2]];
     for right in &rights {
         let left: Vec<W> = mixed(2, 40);
         for &span in &spans {
@@ -27,9 +28,7 @@ fn same(left: usize, right: usize) -> bool {
 fn copies<W: Sample>() {
     pairs::<W>(same, |target, span, source, source_span| {
         let (mut copied, mut expected) = (target.to_vec(), target.to_vec());
-        for i in 0..span.length() {
-            put(&mut expected, span, i, bit(source, source_span, i));
-        }
+        assert_eq!(model::copy_from(&mut expected, rules::span(span), source, rules::span(source_span)), Ok(()));
         assert_eq!(copied.copy_from(span, source, source_span), Ok(()));
         assert_eq!(copied, expected);
     });
@@ -37,18 +36,15 @@ fn copies<W: Sample>() {
 
 #[test]
 fn every_copy_between_rows() {
-    copies::<u8>();
-    copies::<u64>();
+    at_every_width!(copies());
 }
 
 fn swaps<W: Sample>() {
     pairs::<W>(same, |left, span, right, right_span| {
         let (mut here, mut there) = (left.to_vec(), right.to_vec());
         let (mut expected_here, mut expected_there) = (left.to_vec(), right.to_vec());
-        for i in 0..span.length() {
-            put(&mut expected_here, span, i, bit(right, right_span, i));
-            put(&mut expected_there, right_span, i, bit(left, span, i));
-        }
+        let swapped = model::swap(&mut expected_here, rules::span(span), &mut expected_there, rules::span(right_span));
+        assert_eq!(swapped, Ok(()));
         assert_eq!(here.swap_with(span, &mut there, right_span), Ok(()));
         assert_eq!((here, there), (expected_here, expected_there));
     });
@@ -56,18 +52,15 @@ fn swaps<W: Sample>() {
 
 #[test]
 fn every_swap() {
-    swaps::<u8>();
-    swaps::<u64>();
+    at_every_width!(swaps());
 }
 
-fn booleans<W: Sample>(operation: Operation, result: fn(bool, bool) -> bool) {
+fn booleans<W: Sample>(operation: Operation, truth_table: u8) {
     let near = |left: usize, right: usize| left.abs_diff(right) < 3 || right % 8 == 5;
     pairs::<W>(near, |left, span, right, right_span| {
         let (mut combined, mut expected) = (left.to_vec(), left.to_vec());
-        for i in 0..span.length() {
-            let other = i < right_span.length() && bit(right, right_span, i);
-            put(&mut expected, span, i, result(bit(left, span, i), other));
-        }
+        let (model_span, model_right) = (rules::span(span), rules::span(right_span));
+        assert_eq!(model::boolean(&mut expected, model_span, right, model_right, truth_table), Ok(()));
         assert_eq!(combined.boolean(span, right, right_span, operation), Ok(()));
         assert_eq!(combined, expected);
     });
@@ -75,26 +68,21 @@ fn booleans<W: Sample>(operation: Operation, result: fn(bool, bool) -> bool) {
 
 #[test]
 fn every_boolean() {
-    for (operation, result) in [
-        (Operation::And, (|a, b| a & b) as fn(bool, bool) -> bool),
-        (Operation::Or, |a, b| a | b),
-        (Operation::Xor, |a, b| a ^ b),
-    ] {
-        booleans::<u8>(operation, result);
-        booleans::<u64>(operation, result);
+    for (operation, truth_table) in [(Operation::And, 0b1000), (Operation::Or, 0b1110), (Operation::Xor, 0b0110)] {
+        at_every_width!(booleans(operation, truth_table));
     }
 }
 
 fn equalities<W: Sample>() {
     pairs::<W>(same, |left, span, right, right_span| {
-        let same_bits = (0..span.length()).all(|i| bit(left, span, i) == bit(right, right_span, i));
-        assert_eq!(left.equal(span, right, right_span), Ok(same_bits));
+        let (model_span, model_right) = (rules::span(span), rules::span(right_span));
+        let equal = rules::answer(model::equal(left, model_span, right, model_right));
+        assert!(equal.is_ok());
+        assert_eq!(left.equal(span, right, right_span), equal);
         assert_eq!(left.equal(span, left, span), Ok(true));
 
         let mut twin = right.to_vec();
-        for i in 0..span.length() {
-            put(&mut twin, right_span, i, bit(left, span, i));
-        }
+        assert_eq!(model::copy_from(&mut twin, model_right, left, model_span), Ok(()));
         assert_eq!(left.equal(span, &twin, right_span), Ok(true));
         for i in [0, span.length() / 2, span.length().saturating_sub(1)] {
             if i < span.length() {
@@ -104,18 +92,15 @@ fn equalities<W: Sample>() {
             }
         }
     });
-    pairs::<W>(
-        |left, right| left.abs_diff(right) == 1,
-        |left, span, right, right_span| {
-            assert_eq!(left.equal(span, right, right_span), Ok(false));
-        },
-    );
+    let by_one = |left: usize, right: usize| left.abs_diff(right) == 1;
+    pairs::<W>(by_one, |left, span, right, right_span| {
+        assert_eq!(left.equal(span, right, right_span), Ok(false));
+    });
 }
 
 #[test]
 fn every_equality() {
-    equalities::<u8>();
-    equalities::<u64>();
+    at_every_width!(equalities());
 }
 
 fn copies_inside<W: Sample>() {
@@ -126,9 +111,8 @@ fn copies_inside<W: Sample>() {
             for destination in places() {
                 for count in places().filter(|count| count + start.max(destination) <= span.length()) {
                     let (mut copied, mut expected) = (row.clone(), row.clone());
-                    for i in 0..count {
-                        put(&mut expected, span, destination + i, bit(&row, span, start + i));
-                    }
+                    let [from, many, to] = [start, count, destination].map(|number| number as u64);
+                    assert_eq!(model::copy_within(&mut expected, rules::span(span), from, many, to), Ok(()));
                     assert_eq!(copied.copy_inside(span, start, count, destination), Ok(()));
                     assert_eq!(copied, expected);
                 }
@@ -139,31 +123,33 @@ fn copies_inside<W: Sample>() {
 
 #[test]
 fn every_copy_inside() {
-    copies_inside::<u8>();
-    copies_inside::<u64>();
+    at_every_width!(copies_inside());
 }
 
 fn searches<W: Sample>() {
     let mut tried = rows::<W>(3);
     for i in 0..3 * W::BITS {
-        let mut lone = vec![W::narrow(0); 3];
-        put(&mut lone, Span::new(Order::Lsb0, 0, 0, 3 * W::BITS), i, true);
-        tried.push(lone.iter().map(|word| W::narrow(!word.wide())).collect());
-        tried.push(lone);
+        for lone in [false, true] {
+            let mut row = vec![W::of(if lone { 0 } else { u64::MAX }); 3];
+            put(&mut row, Span::new(Order::Lsb0, 0, 0, 3 * W::BITS), i, lone);
+            tried.push(row);
+        }
     }
     for row in &tried {
         for span in spans::<W>(row.len()) {
-            let with = |value: bool| (0..span.length()).filter(move |&i| bit(row, span, i) == value);
-            assert_eq!(row.first_one(span), Ok(with(true).min()));
-            assert_eq!(row.last_one(span), Ok(with(true).max()));
-            assert_eq!(row.first_zero(span), Ok(with(false).min()));
-            assert_eq!(row.last_zero(span), Ok(with(false).max()));
+            let found = |end: End, wanted: bool| {
+                let index = model::search(row, rules::span(span), end, wanted).unwrap();
+                Ok(index.map(|index| index as usize))
+            };
+            assert_eq!(row.first_one(span), found(End::First, true));
+            assert_eq!(row.last_one(span), found(End::Last, true));
+            assert_eq!(row.first_zero(span), found(End::First, false));
+            assert_eq!(row.last_zero(span), found(End::Last, false));
         }
     }
 }
 
 #[test]
 fn every_search() {
-    searches::<u8>();
-    searches::<u64>();
+    at_every_width!(searches());
 }

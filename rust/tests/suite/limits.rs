@@ -1,12 +1,10 @@
 //! Each limit at, below and above it, and sums that pass 2^64.
 
-mod calls;
-mod rules;
-
-use calls::assert_all;
-use rules::ORDERS;
 use stableply::Significance::Le;
-use stableply::{BitRow, IntegerKind, MOST_WORDS, Refusal, Span, Word};
+use stableply::{BitRow, IntegerKind, Refusal, Span, Word, MOST_WORDS};
+
+use crate::every_call::assert_all;
+use crate::tried::ORDERS;
 
 fn words_lent<W: Word + Default>() {
     for order in ORDERS {
@@ -20,8 +18,7 @@ fn words_lent<W: Word + Default>() {
 
 #[test]
 fn at_most_65536_words() {
-    words_lent::<u8>();
-    words_lent::<u64>();
+    at_every_width!(words_lent());
 }
 
 fn heads<W: Word + Default>() {
@@ -36,8 +33,7 @@ fn heads<W: Word + Default>() {
 
 #[test]
 fn heads_below_the_width() {
-    heads::<u8>();
-    heads::<u64>();
+    at_every_width!(heads());
 }
 
 fn ends<W: Word + Default>() {
@@ -51,8 +47,7 @@ fn ends<W: Word + Default>() {
 
 #[test]
 fn spans_end_inside_the_row() {
-    ends::<u8>();
-    ends::<u64>();
+    at_every_width!(ends());
 }
 
 /// W * word, or word, head and length together, pass 2^64: a sum that wrapped would be in bounds.
@@ -76,8 +71,7 @@ fn sums<W: Word + Default>() {
 
 #[test]
 fn sums_that_pass_2_to_the_64() {
-    sums::<u8>();
-    sums::<u64>();
+    at_every_width!(sums());
 }
 
 fn empty_spans<W: Word + Default>() {
@@ -99,8 +93,7 @@ fn empty_spans<W: Word + Default>() {
 
 #[test]
 fn empty_spans_up_to_the_very_end() {
-    empty_spans::<u8>();
-    empty_spans::<u64>();
+    at_every_width!(empty_spans());
 }
 
 fn field_lengths<W: Word + Default>() {
@@ -131,8 +124,7 @@ fn field_lengths<W: Word + Default>() {
 
 #[test]
 fn fields_of_1_to_k_bits() {
-    field_lengths::<u8>();
-    field_lengths::<u64>();
+    at_every_width!(field_lengths());
 }
 
 #[test]
@@ -186,6 +178,5 @@ fn places<W: Word + Default>() {
 
 #[test]
 fn places_inside_the_span() {
-    places::<u8>();
-    places::<u64>();
+    at_every_width!(places());
 }

@@ -1,10 +1,12 @@
 //! Single bits and fields: every span of a row of 64-bit words that starts and ends near a word's end, every span of bytes.
 
-mod rules;
+use std::fmt::Debug;
 
-use rules::{SIGNIFICANCES, Sample, bit, number, put, rows, spans};
 use stableply::Significance::Le;
 use stableply::{BitRow, Integer, IntegerKind, Order, Refusal, Span};
+
+use crate::rules::{self, bit, put};
+use crate::tried::{rows, spans, Sample, SIGNIFICANCES};
 
 fn bits<W: Sample>() {
     for row in rows::<W>(2) {
@@ -24,79 +26,77 @@ fn bits<W: Sample>() {
 
 #[test]
 fn every_bit() {
-    bits::<u8>();
-    bits::<u64>();
+    at_every_width!(bits());
 }
 
-/// The number of the low `length` bits of `bits`, signed or not.
-fn read_as(bits: u64, length: usize, signed: bool) -> i128 {
-    let number = i128::from(bits) % (1 << length);
-    if signed && number >= 1 << (length - 1) { number - (1 << length) } else { number }
+/// An integer type that whole numbers can be turned into.
+trait Whole: Integer + TryFrom<i128, Error: Debug> + PartialEq + Debug {}
+
+impl<I: Integer + TryFrom<i128, Error: Debug> + PartialEq + Debug> Whole for I {}
+
+/// Two numbers of the kind, with ones and zeros in all their parts, each the other's complement. Of signed ones one is
+/// negative.
+fn patterned(kind: IntegerKind) -> [i128; 2] {
+    let signed = kind == IntegerKind::signed(kind.k());
+    [0x9E37_79B9_7F4A_7C15, !0x9E37_79B9_7F4A_7C15].map(|bits: i128| {
+        let low = bits & ((1 << kind.k()) - 1);
+        let negative = signed && low >= 1 << (kind.k() - 1);
+        low - if negative { 1 << kind.k() } else { 0 }
+    })
 }
 
 /// Loads and stores of one integer type, at every span of 1 to K bits.
-fn fields<W: Sample, I: Integer + TryFrom<i128> + PartialEq + std::fmt::Debug>()
-where
-    I::Error: std::fmt::Debug,
-{
+fn fields<W: Sample, I: Whole>() {
     let kind = I::KIND;
-    let signed = kind == IntegerKind::signed(kind.k());
+    let whole = |number: i128| I::try_from(number).unwrap();
     let lent = if W::BITS == 8 { 9 } else { 2 };
     for row in rows::<W>(lent) {
         let fields = spans::<W>(lent).into_iter().filter(|span| (1..=kind.k()).contains(&span.length()));
         for span in fields.filter(|span| span.word() < 2) {
             for significance in SIGNIFICANCES {
-                let held = read_as(number(&row, span, significance), span.length(), signed);
-                assert_eq!(row.load::<I>(span, significance), Ok(I::try_from(held).unwrap()));
+                let field = rules::field(span, significance, kind);
+                let held = model::load(&row, field).unwrap();
                 assert_eq!(row.load_number(span, significance, kind), Ok(held));
+                assert_eq!(row.load::<I>(span, significance), Ok(whole(held)));
 
-                let value = read_as(0x9E37_79B9_7F4A_7C15, kind.k(), signed);
-                let mut stored = row.clone();
-                assert_eq!(stored.store(span, significance, I::try_from(value).unwrap()), Ok(()));
-                let low = read_as(value as u64, span.length(), signed);
-                assert_eq!(read_as(number(&stored, span, significance), span.length(), signed), low);
-                assert_others_stay(&row, &stored, span);
+                for value in patterned(kind) {
+                    let (mut stored, mut expected) = (row.clone(), row.clone());
+                    assert_eq!(model::store(&mut expected, field, value), Ok(()));
+                    assert_eq!(stored.store(span, significance, whole(value)), Ok(()));
+                    assert_eq!(stored, expected);
 
-                let mut strictly = row.clone();
-                let fits = if signed { value.abs() < 1 << (span.length() - 1) } else { value < 1 << span.length() };
-                let answer = strictly.store_strict(span, significance, I::try_from(value).unwrap());
-                assert_eq!(answer, if fits { Ok(()) } else { Err(Refusal::DoesNotFit) });
-                assert_eq!(strictly, if fits { stored } else { row.clone() });
+                    let (mut strictly, mut expected) = (row.clone(), row.clone());
+                    let owed = rules::answer(model::store_strict(&mut expected, field, value));
+                    assert_eq!(strictly.store_strict(span, significance, whole(value)), owed);
+                    assert_eq!(strictly, expected);
+                }
             }
         }
     }
 }
 
-fn assert_others_stay<W: Sample>(before: &[W], after: &[W], span: Span) {
-    let mut masked = after.to_vec();
-    for i in 0..span.length() {
-        put(&mut masked, span, i, bit(before, span, i));
-    }
-    assert_eq!(masked, before);
+fn unsigned_fields<W: Sample>() {
+    fields::<W, u8>();
+    fields::<W, u16>();
+    fields::<W, u32>();
+    fields::<W, u64>();
 }
 
 #[test]
 fn every_field_of_unsigned_integers() {
-    fields::<u8, u8>();
-    fields::<u8, u16>();
-    fields::<u8, u32>();
-    fields::<u8, u64>();
-    fields::<u64, u8>();
-    fields::<u64, u16>();
-    fields::<u64, u32>();
-    fields::<u64, u64>();
+    at_every_width!(unsigned_fields());
+}
+
+fn signed_fields<W: Sample>() {
+    fields::<W, i8>();
+    fields::<W, i16>();
+    fields::<W, i32>();
+    fields::<W, i64>();
 }
 
 #[test]
 fn every_field_of_signed_integers() {
-    fields::<u8, i8>();
-    fields::<u8, i16>();
-    fields::<u8, i32>();
-    fields::<u8, i64>();
-    fields::<u64, i8>();
-    fields::<u64, i16>();
-    fields::<u64, i32>();
-    fields::<u64, i64>();
+    at_every_width!(signed_fields());
 }
 
 #[test]

@@ -4,6 +4,7 @@ use stableply::Order::{Lsb0, Msb0};
 use stableply::Significance::{Be, Le};
 use stableply::{BitRow, IntegerKind, Mask, Operation, Refusal, Span};
 
+/// The document's row.
 const ROW: [u8; 3] = [0xB4, 0x6C, 0xF1];
 
 #[test]
