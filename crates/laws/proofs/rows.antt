@@ -1,6 +1,5 @@
 pub mod Word
 pub mod Part
-pub mod Copy
 pub mod Scratch
 pub mod InPlace
 pub mod Filled

@@ -3,3 +3,4 @@ pub mod Accepted
 pub mod OneAnswer
 pub mod Room
 pub mod Widths
+pub mod Wordless

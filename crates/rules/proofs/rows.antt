@@ -1,3 +1,4 @@
 pub mod Row
 pub mod Splice
 pub mod Spans
+pub mod Copy

@@ -4,3 +4,4 @@ pub mod FieldByPieces
 pub mod RowSentences
 pub mod SearchSentences
 pub mod Unread
+pub mod Operations
