@@ -1,11 +1,16 @@
-// Boolean operations on rows of words of 64 bits. An operation is its truth table's number: bit 2a + b is the result for left bit a and right bit b.
-use checks::check_pair;
+// Boolean operations on two rows of words of 64 bits, the result into the left one. An operation is the number of its truth table: the
+// result for left bit a and right bit b is bit 2a + b of it (and 8, or 14, xor 6). The left row is cut into a first piece up to a word's
+// end, whole words and a last piece.
+use refusals::check_pair;
 use rules::Index;
 use rules::Order;
 use rules::Span;
 use rules::Verdict;
 use rules::Width;
 use rules::WriteAnswer;
+use word64::ONES;
+use word64::W;
+use word64::Word;
 use word64::fetch;
 use word64::joined;
 use word64::lead;
@@ -14,107 +19,232 @@ use word64::put;
 ghost use mathlib.Core.Path.{_≡_};
 ghost use Prim.Native.Nat.{ℕ, _+_, _-_, _*_, _/_, _%_, _≤_, _<_};
 ghost use lib.ListN.{length, getD};
+ghost use Rattle.word64.specs.Width.{W};
 ghost use Rattle.rules.specs.Bits.{bitN};
 ghost use Rattle.rules.specs.Positions.{position, row, spliced};
 ghost use Rattle.rules.specs.Rows.{applied};
 ghost use Rattle.rules.specs.Calls.{boolean, answer, after};
 ghost use Rattle.rules.specs.Answers.{writeSays, Gives};
-ghost use Rattle.rules.proofs.Funnel.{funneled};
-ghost use Rattle.rules.proofs.Merged.{selected};
-ghost use Rattle.rules.proofs.Combine.{wordwise, spreadOf};
+ghost use Rattle.laws.proofs.words.Funnel.{funneled};
+ghost use Rattle.laws.proofs.words.Merged.{selected};
+ghost use Rattle.laws.proofs.words.Combine.{wordwise, spreadOf};
 
-// All ones where bit k of the operation's number is one, else all zeros.
-fn spread(operation: u8, k: u8) -> u64
-    requires { ⌜ k < 8 ⌝ }
-    ensures { λ r. ⌜ r ≡ spreadOf 64 (bitN operation k) ⌝ }
+// Each bit of the left span becomes the operation of it and the right span's bit of the same index; where the right span has ended, its
+// bits count as 0. Refusals 1 to 3 of the left, 1 to 3 of the right, 6.
+pub fn boolean(
+    words: &mut [Word],
+    span: Span,
+    right: &[Word],
+    right_span: Span,
+    operation: u8,
+) -> WriteAnswer
+    ensures { λ r. ⌜ Gives W (boolean operation span (now (right .entry)) «right_span») (now (words .entry)) (writeSays r) (now (words .exit)) ⌝ }
 {
-    let bit = (operation >> k) % 2;
-    let ones = 0xffff_ffff_ffff_ffffu64;
-    if bit == 0 { 0 } else { ones }
-}
-
-// The bits of v where those of x are ones, else those of u.
-fn choose(x: u64, u: u64, v: u64) -> u64
-    ensures { λ r. ⌜ r ≡ selected x u v ⌝ }
-{
-    u ^ ((u ^ v) & x)
-}
-
-// Any operation on two words, by its truth table.
-fn table(operation: u8, a: u64, b: u64) -> u64
-    ensures { λ r. ⌜ r ≡ wordwise 64 operation a b ⌝ }
-{
-    let t0 = spread(operation, 0);
-    let t1 = spread(operation, 1);
-    let t2 = spread(operation, 2);
-    let t3 = spread(operation, 3);
-    let low = choose(b, t0, t1);
-    let high = choose(b, t2, t3);
-    choose(a, low, high)
-}
-
-// The operation on two words: and, or, xor, and by the truth table any other.
-fn apply(operation: u8, a: u64, b: u64) -> u64
-    ensures { λ r. ⌜ r ≡ wordwise 64 operation a b ⌝ }
-{
-    match operation {
-        8 => a & b,
-        14 => a | b,
-        6 => a ^ b,
-        _ => table(operation, a, b),
+    let verdict = check_pair(Width::W64, words.len(), span, right.len(), right_span);
+    match verdict {
+        Verdict::Refused(no) => WriteAnswer::Refused(no),
+        Verdict::Fine => {
+            let order = span.order;
+            let len = span.len;
+            let d = span.start(W);
+            let s = right_span.start(W);
+            let m = least(len, right_span.len);
+            between(words, order, d, m, operation, right, s);
+            rest(words, order, d + m, len - m, operation);
+            WriteAnswer::Done
+        }
     }
 }
 
-// Whole words with those of the right side as they stand.
-fn plain_words(words: &mut [u64], operation: u8, right: &[u64])
-    requires { ⌜ length (now words) ≤ length (now right) ⌝ }
-    ensures { λ _. ⌜ ((k : ℕ) → k < length (now (words .entry)) → getD (now (words .exit)) k 0 ≡ wordwise 64 operation (getD (now (words .entry)) k 0) (getD (now (right .entry)) k 0)) ⌝ }
+// The part of the left row, `len` bits from place d on, to which the right row does not reach: each bit is combined with 0.
+fn rest(words: &mut [Word], order: Order, d: usize, len: usize, operation: u8)
+    requires { ⌜ (d + len ≤ length (now words) * W) × (length (now words) ≤ 65536) ⌝ }
+    ensures { λ _. ⌜ now (words .exit) ≡ spliced W order (now (words .entry)) d len (λ i. applied operation (row W order (now (words .entry)) (d + i)) 0) ⌝ }
+{
+    if len == 0 {
+        return;
+    }
+    let first = lead(d, len);
+    none_piece(words, order, d, first, operation);
+    let k = (len - first) / W;
+    rest_whole(words, order, d + first, k, operation);
+    let most = first + k * W;
+    none_piece(words, order, d + most, len - most, operation);
+}
+
+// Its whole words: k of them from place d on, which is a word's start.
+fn rest_whole(words: &mut [Word], order: Order, d: usize, k: usize, operation: u8)
+    requires { ⌜ (1 ≤ k → d % W ≡ 0) × (d + k * W ≤ length (now words) * W) ⌝ }
+    ensures { λ _. ⌜ now (words .exit) ≡ spliced W order (now (words .entry)) d (k * W)
+        (λ i. applied operation (row W order (now (words .entry)) (d + i)) 0) ⌝ }
+{
+    if k == 0 {
+        return;
+    }
+    let a = d / W;
+    let e = a + k;
+    rest_words(&mut words[a..e], operation);
+}
+
+// Its pieces: n bits within one word from place d on, combined with 0.
+fn none_piece(words: &mut [Word], order: Order, d: usize, n: usize, operation: u8)
+    requires { ⌜ (d % W + n ≤ W) × (d + n ≤ length (now words) * W) ⌝ }
+    ensures { λ _. ⌜ now (words .exit) ≡ spliced W order (now (words .entry)) d n (λ i. applied operation (row W order (now (words .entry)) (d + i)) 0) ⌝ }
+{
+    if n == 0 {
+        return;
+    }
+    piece(words, order, d, n, operation, 0);
+}
+
+// `len` bits of the left row from place d on, each combined with the right row's bit, which begins at place s.
+fn between(
+    words: &mut [Word],
+    order: Order,
+    d: usize,
+    len: usize,
+    operation: u8,
+    right: &[Word],
+    s: usize,
+)
+    requires { ⌜ (d + len ≤ length (now words) * W) × (s + len ≤ length (now right) * W) × (length (now words) ≤ 65536) × (length (now right) ≤ 65536) ⌝ }
+    ensures { λ _. ⌜ now (words .exit) ≡ spliced W order (now (words .entry)) d len
+        (λ i. applied operation (row W order (now (words .entry)) (d + i)) (row W order (now (right .entry)) (s + i))) ⌝ }
+{
+    let first = lead(d, len);
+    first_piece(words, order, d, first, operation, right, s);
+    let k = (len - first) / W;
+    whole_words(words, order, d + first, k, operation, right, s + first);
+    let most = first + k * W;
+    last_piece(
+        words,
+        order,
+        d + most,
+        len - most,
+        operation,
+        right,
+        s + most,
+    );
+}
+
+// The last piece of the left row: n bits from a word's start on. Each order has code of its own, so that the compiler knows it there.
+fn last_piece(
+    words: &mut [Word],
+    order: Order,
+    d: usize,
+    n: usize,
+    operation: u8,
+    right: &[Word],
+    s: usize,
+)
+    requires { ⌜ (1 ≤ n → d % W ≡ 0) × (n ≤ W) × (d + n ≤ length (now words) * W) × (s + n ≤ length (now right) * W) × (length (now words) ≤ 65536) ⌝ }
+    ensures { λ _. ⌜ now (words .exit) ≡ spliced W order (now (words .entry)) d n
+        (λ i. applied operation (row W order (now (words .entry)) (d + i)) (row W order (now (right .entry)) (s + i))) ⌝ }
+{
+    if n == 0 {
+        return;
+    }
+    let at = d / W * W;
+    match order {
+        Order::Lsb0 => {
+            let v = fetch(right, Order::Lsb0, s, Index(at % W), n);
+            piece(words, Order::Lsb0, at, n, operation, v);
+        }
+        Order::Msb0 => {
+            let v = fetch(right, Order::Msb0, s, Index(at % W), n);
+            piece(words, Order::Msb0, at, n, operation, v);
+        }
+    }
+}
+
+// The first piece of the left row: n bits that end in the word where they begin. Each order has code of its own, so that the compiler knows
+// it there.
+fn first_piece(
+    words: &mut [Word],
+    order: Order,
+    d: usize,
+    n: usize,
+    operation: u8,
+    right: &[Word],
+    s: usize,
+)
+    requires { ⌜ (d % W + n ≤ W) × (d + n ≤ length (now words) * W) × (s + n ≤ length (now right) * W) ⌝ }
+    ensures { λ _. ⌜ now (words .exit) ≡ spliced W order (now (words .entry)) d n
+        (λ i. applied operation (row W order (now (words .entry)) (d + i)) (row W order (now (right .entry)) (s + i))) ⌝ }
+{
+    if n == 0 {
+        return;
+    }
+    match order {
+        Order::Lsb0 => {
+            let v = fetch(right, Order::Lsb0, s, Index(d % W), n);
+            piece(words, Order::Lsb0, d, n, operation, v);
+        }
+        Order::Msb0 => {
+            let v = fetch(right, Order::Msb0, s, Index(d % W), n);
+            piece(words, Order::Msb0, d, n, operation, v);
+        }
+    }
+}
+
+// n bits within one word of the left row, combined with the bits that v has at the same indexes.
+fn piece(words: &mut [Word], order: Order, d: usize, n: usize, operation: u8, v: Word)
+    requires { ⌜ (1 ≤ n) × (d % W + n ≤ W) × (d + n ≤ length (now words) * W) ⌝ }
+    ensures { λ _. ⌜ now (words .exit) ≡ spliced W order (now (words .entry)) d n
+        (λ i. applied operation (row W order (now (words .entry)) (d + i)) (bitN v (position W order (d % W + i)))) ⌝ }
+{
+    let word = d / W;
+    let x = apply(operation, words[word], v);
+    put(words, order, d, n, x);
+}
+
+// k whole words of the left row from place d on. They are lent on as a part of their own, so that the loops below begin at word 0.
+fn whole_words(
+    words: &mut [Word],
+    order: Order,
+    d: usize,
+    k: usize,
+    operation: u8,
+    right: &[Word],
+    s: usize,
+)
+    requires { ⌜ (1 ≤ k → d % W ≡ 0) × (d + k * W ≤ length (now words) * W) × (s + k * W ≤ length (now right) * W) × (length (now right) ≤ 65536) ⌝ }
+    ensures { λ _. ⌜ now (words .exit) ≡ spliced W order (now (words .entry)) d (k * W)
+        (λ i. applied operation (row W order (now (words .entry)) (d + i)) (row W order (now (right .entry)) (s + i))) ⌝ }
+{
+    if k == 0 {
+        return;
+    }
+    let a = d / W;
+    let e = a + k;
+    let b = s / W;
+    let h = s % W;
+    if h == 0 {
+        let f = b + k;
+        plain_cases(&mut words[a..e], operation, &right[b..f]);
+        return;
+    }
+    let f = b + k + 1;
+    funnel_cases(&mut words[a..e], order, operation, &right[b..f], Index(h));
+}
+
+// Whole words, each combined with the word 0.
+fn rest_words(words: &mut [Word], operation: u8)
+    ensures { λ _. ⌜ ((k : ℕ) → k < length (now (words .entry)) → getD (now (words .exit)) k 0 ≡ wordwise W operation (getD (now (words .entry)) k 0) 0) ⌝ }
 {
     let mut i: usize = 0;
     while i < words.len() {
-        words[i] = apply(operation, words[i], right[i]);
+        words[i] = apply(operation, words[i], 0);
         i = i + 1;
     }
 }
 
-// The same, with a loop of its own for each of and, or and xor.
-fn plain_cases(words: &mut [u64], operation: u8, right: &[u64])
-    requires { ⌜ length (now words) ≤ length (now right) ⌝ }
-    ensures { λ _. ⌜ ((k : ℕ) → k < length (now (words .entry)) → getD (now (words .exit)) k 0 ≡ wordwise 64 operation (getD (now (words .entry)) k 0) (getD (now (right .entry)) k 0)) ⌝ }
-{
-    match operation {
-        8 => {
-            plain_words(words, 8, right);
-        }
-        14 => {
-            plain_words(words, 14, right);
-        }
-        6 => {
-            plain_words(words, 6, right);
-        }
-        _ => {
-            plain_words(words, operation, right);
-        }
-    }
-}
-
-// Whole words with those of the right side at a head.
-fn funnel_words(words: &mut [u64], order: Order, operation: u8, right: &[u64], head: Index)
-    requires { ⌜ (1 ≤ head .0) × (head .0 < 64) × (length (now words) + 1 ≤ length (now right)) ⌝ }
-    ensures { λ _. ⌜ ((k : ℕ) → k < length (now (words .entry)) → getD (now (words .exit)) k 0 ≡ wordwise 64 operation (getD (now (words .entry)) k 0) (funneled 64 order (head .0) (getD (now (right .entry)) k 0) (getD (now (right .entry)) (k + 1) 0))) ⌝ }
-{
-    let mut i: usize = 0;
-    while i < words.len() {
-        let v = joined(order, head, right[i], right[i + 1]);
-        words[i] = apply(operation, words[i], v);
-        i = i + 1;
-    }
-}
-
-// The same, with a loop of its own for each of and, or and xor.
-fn funnel_cases(words: &mut [u64], order: Order, operation: u8, right: &[u64], head: Index)
-    requires { ⌜ (1 ≤ head .0) × (head .0 < 64) × (length (now words) + 1 ≤ length (now right)) ⌝ }
-    ensures { λ _. ⌜ ((k : ℕ) → k < length (now (words .entry)) → getD (now (words .exit)) k 0 ≡ wordwise 64 operation (getD (now (words .entry)) k 0) (funneled 64 order (head .0) (getD (now (right .entry)) k 0) (getD (now (right .entry)) (k + 1) 0))) ⌝ }
+// Whole words where the right row lies at another head: a loop for each of and, or and xor, in which the compiler knows the operation, and
+// one for any other number.
+fn funnel_cases(words: &mut [Word], order: Order, operation: u8, right: &[Word], head: Index)
+    requires { ⌜ (1 ≤ head .0) × (head .0 < W) × (length (now words) + 1 ≤ length (now right)) ⌝ }
+    ensures { λ _. ⌜ ((k : ℕ) → k < length (now (words .entry)) → getD (now (words .exit)) k 0 ≡ wordwise W operation (getD (now (words .entry)) k 0)
+        (funneled W order (head .0) (getD (now (right .entry)) k 0) (getD (now (right .entry)) (k + 1) 0))) ⌝ }
 {
     match operation {
         8 => {
@@ -132,204 +262,93 @@ fn funnel_cases(words: &mut [u64], order: Order, operation: u8, right: &[u64], h
     }
 }
 
-// Whole words where the right side has ended.
-fn rest_words(words: &mut [u64], operation: u8)
-    ensures { λ _. ⌜ ((k : ℕ) → k < length (now (words .entry)) → getD (now (words .exit)) k 0 ≡ wordwise 64 operation (getD (now (words .entry)) k 0) 0) ⌝ }
+// Word i is combined with the word that begins at index `head` of the right word i and goes on in the next.
+fn funnel_words(words: &mut [Word], order: Order, operation: u8, right: &[Word], head: Index)
+    requires { ⌜ (1 ≤ head .0) × (head .0 < W) × (length (now words) + 1 ≤ length (now right)) ⌝ }
+    ensures { λ _. ⌜ ((k : ℕ) → k < length (now (words .entry)) → getD (now (words .exit)) k 0 ≡ wordwise W operation (getD (now (words .entry)) k 0)
+        (funneled W order (head .0) (getD (now (right .entry)) k 0) (getD (now (right .entry)) (k + 1) 0))) ⌝ }
 {
     let mut i: usize = 0;
     while i < words.len() {
-        words[i] = apply(operation, words[i], 0);
+        let v = joined(order, head, right[i], right[i + 1]);
+        words[i] = apply(operation, words[i], v);
         i = i + 1;
     }
 }
 
-// k whole words from place d on, lent on as a part.
-fn whole_words(
-    words: &mut [u64],
-    order: Order,
-    d: usize,
-    k: usize,
-    operation: u8,
-    right: &[u64],
-    s: usize,
-)
-    requires { ⌜ (1 ≤ k → d % 64 ≡ 0) × (d + k * 64 ≤ length (now words) * 64) × (s + k * 64 ≤ length (now right) * 64) × (length (now right) ≤ 65536) ⌝ }
-    ensures { λ _. ⌜ now (words .exit) ≡ spliced 64 order (now (words .entry)) d (k * 64) (λ i. applied operation (row 64 order (now (words .entry)) (d + i)) (row 64 order (now (right .entry)) (s + i))) ⌝ }
+// Whole words where the right row lies at the same head: again a loop for each of and, or and xor, and one for any other number.
+fn plain_cases(words: &mut [Word], operation: u8, right: &[Word])
+    requires { ⌜ length (now words) ≤ length (now right) ⌝ }
+    ensures { λ _. ⌜ ((k : ℕ) → k < length (now (words .entry)) → getD (now (words .exit)) k 0 ≡ wordwise W operation (getD (now (words .entry)) k 0)
+        (getD (now (right .entry)) k 0)) ⌝ }
 {
-    if k == 0 {
-        return;
-    }
-    let a = d / 64;
-    let e = a + k;
-    let b = s / 64;
-    let h = s % 64;
-    if h == 0 {
-        let f = b + k;
-        plain_cases(&mut words[a..e], operation, &right[b..f]);
-        return;
-    }
-    let f = b + k + 1;
-    funnel_cases(&mut words[a..e], order, operation, &right[b..f], Index(h));
-}
-
-// n bits within one word; v has the right side's bits at the same indexes.
-fn piece(words: &mut [u64], order: Order, d: usize, n: usize, operation: u8, v: u64)
-    requires { ⌜ (1 ≤ n) × (d % 64 + n ≤ 64) × (d + n ≤ length (now words) * 64) ⌝ }
-    ensures { λ _. ⌜ now (words .exit) ≡ spliced 64 order (now (words .entry)) d n (λ i. applied operation (row 64 order (now (words .entry)) (d + i)) (bitN v (position 64 order (d % 64 + i)))) ⌝ }
-{
-    let word = d / 64;
-    let x = apply(operation, words[word], v);
-    put(words, order, d, n, x);
-}
-
-// The first piece: n bits within one word, with those of the right side, and with code of its own for each order.
-fn first_piece(
-    words: &mut [u64],
-    order: Order,
-    d: usize,
-    n: usize,
-    operation: u8,
-    right: &[u64],
-    s: usize,
-)
-    requires { ⌜ (d % 64 + n ≤ 64) × (d + n ≤ length (now words) * 64) × (s + n ≤ length (now right) * 64) ⌝ }
-    ensures { λ _. ⌜ now (words .exit) ≡ spliced 64 order (now (words .entry)) d n (λ i. applied operation (row 64 order (now (words .entry)) (d + i)) (row 64 order (now (right .entry)) (s + i))) ⌝ }
-{
-    if n == 0 {
-        return;
-    }
-    match order {
-        Order::Lsb0 => {
-            let v = fetch(right, Order::Lsb0, s, Index(d % 64), n);
-            piece(words, Order::Lsb0, d, n, operation, v);
+    match operation {
+        8 => {
+            plain_words(words, 8, right);
         }
-        Order::Msb0 => {
-            let v = fetch(right, Order::Msb0, s, Index(d % 64), n);
-            piece(words, Order::Msb0, d, n, operation, v);
+        14 => {
+            plain_words(words, 14, right);
+        }
+        6 => {
+            plain_words(words, 6, right);
+        }
+        _ => {
+            plain_words(words, operation, right);
         }
     }
 }
 
-// The last piece: n bits from a word's start on, with those of the right side.
-fn last_piece(
-    words: &mut [u64],
-    order: Order,
-    d: usize,
-    n: usize,
-    operation: u8,
-    right: &[u64],
-    s: usize,
-)
-    requires { ⌜ (1 ≤ n → d % 64 ≡ 0) × (n ≤ 64) × (d + n ≤ length (now words) * 64) × (s + n ≤ length (now right) * 64) × (length (now words) ≤ 65536) ⌝ }
-    ensures { λ _. ⌜ now (words .exit) ≡ spliced 64 order (now (words .entry)) d n (λ i. applied operation (row 64 order (now (words .entry)) (d + i)) (row 64 order (now (right .entry)) (s + i))) ⌝ }
+// Word i is combined with the right word i.
+fn plain_words(words: &mut [Word], operation: u8, right: &[Word])
+    requires { ⌜ length (now words) ≤ length (now right) ⌝ }
+    ensures { λ _. ⌜ ((k : ℕ) → k < length (now (words .entry)) → getD (now (words .exit)) k 0 ≡ wordwise W operation (getD (now (words .entry)) k 0)
+        (getD (now (right .entry)) k 0)) ⌝ }
 {
-    if n == 0 {
-        return;
-    }
-    let at = d / 64 * 64;
-    match order {
-        Order::Lsb0 => {
-            let v = fetch(right, Order::Lsb0, s, Index(at % 64), n);
-            piece(words, Order::Lsb0, at, n, operation, v);
-        }
-        Order::Msb0 => {
-            let v = fetch(right, Order::Msb0, s, Index(at % 64), n);
-            piece(words, Order::Msb0, at, n, operation, v);
-        }
+    let mut i: usize = 0;
+    while i < words.len() {
+        words[i] = apply(operation, words[i], right[i]);
+        i = i + 1;
     }
 }
 
-// len bits with as many of the right side.
-fn between(
-    words: &mut [u64],
-    order: Order,
-    d: usize,
-    len: usize,
-    operation: u8,
-    right: &[u64],
-    s: usize,
-)
-    requires { ⌜ (d + len ≤ length (now words) * 64) × (s + len ≤ length (now right) * 64) × (length (now words) ≤ 65536) × (length (now right) ≤ 65536) ⌝ }
-    ensures { λ _. ⌜ now (words .exit) ≡ spliced 64 order (now (words .entry)) d len (λ i. applied operation (row 64 order (now (words .entry)) (d + i)) (row 64 order (now (right .entry)) (s + i))) ⌝ }
+// The operation on all bits of two words at once.
+fn apply(operation: u8, a: Word, b: Word) -> Word
+    ensures { λ r. ⌜ r ≡ wordwise W operation a b ⌝ }
 {
-    let first = lead(d, len);
-    first_piece(words, order, d, first, operation, right, s);
-    let k = (len - first) / 64;
-    whole_words(words, order, d + first, k, operation, right, s + first);
-    let most = first + k * 64;
-    last_piece(
-        words,
-        order,
-        d + most,
-        len - most,
-        operation,
-        right,
-        s + most,
-    );
+    match operation {
+        8 => a & b,
+        14 => a | b,
+        6 => a ^ b,
+        _ => table(operation, a, b),
+    }
 }
 
-// n bits within one word where the right side has ended.
-fn none_piece(words: &mut [u64], order: Order, d: usize, n: usize, operation: u8)
-    requires { ⌜ (d % 64 + n ≤ 64) × (d + n ≤ length (now words) * 64) ⌝ }
-    ensures { λ _. ⌜ now (words .exit) ≡ spliced 64 order (now (words .entry)) d n (λ i. applied operation (row 64 order (now (words .entry)) (d + i)) 0) ⌝ }
+// The same for a number that has no instruction of its own: the two halves of its truth table, chosen by the left bits.
+fn table(operation: u8, a: Word, b: Word) -> Word
+    ensures { λ r. ⌜ r ≡ wordwise W operation a b ⌝ }
 {
-    if n == 0 {
-        return;
-    }
-    piece(words, order, d, n, operation, 0);
+    let t0 = spread(operation, 0);
+    let t1 = spread(operation, 1);
+    let t2 = spread(operation, 2);
+    let t3 = spread(operation, 3);
+    let low = choose(b, t0, t1);
+    let high = choose(b, t2, t3);
+    choose(a, low, high)
 }
 
-// k whole words from place d on where the right side has ended.
-fn rest_whole(words: &mut [u64], order: Order, d: usize, k: usize, operation: u8)
-    requires { ⌜ (1 ≤ k → d % 64 ≡ 0) × (d + k * 64 ≤ length (now words) * 64) ⌝ }
-    ensures { λ _. ⌜ now (words .exit) ≡ spliced 64 order (now (words .entry)) d (k * 64) (λ i. applied operation (row 64 order (now (words .entry)) (d + i)) 0) ⌝ }
+// The bits of v where x has ones, and those of u elsewhere.
+fn choose(x: Word, u: Word, v: Word) -> Word
+    ensures { λ r. ⌜ r ≡ selected x u v ⌝ }
 {
-    if k == 0 {
-        return;
-    }
-    let a = d / 64;
-    let e = a + k;
-    rest_words(&mut words[a..e], operation);
+    u ^ ((u ^ v) & x)
 }
 
-// len bits where the right side has ended.
-fn rest(words: &mut [u64], order: Order, d: usize, len: usize, operation: u8)
-    requires { ⌜ (d + len ≤ length (now words) * 64) × (length (now words) ≤ 65536) ⌝ }
-    ensures { λ _. ⌜ now (words .exit) ≡ spliced 64 order (now (words .entry)) d len (λ i. applied operation (row 64 order (now (words .entry)) (d + i)) 0) ⌝ }
+// All ones where bit k of the operation's number is 1, else all zeros: the result for one pair of bits, for a whole word.
+fn spread(operation: u8, k: u8) -> Word
+    requires { ⌜ k < 8 ⌝ }
+    ensures { λ r. ⌜ r ≡ spreadOf W (bitN operation k) ⌝ }
 {
-    if len == 0 {
-        return;
-    }
-    let first = lead(d, len);
-    none_piece(words, order, d, first, operation);
-    let k = (len - first) / 64;
-    rest_whole(words, order, d + first, k, operation);
-    let most = first + k * 64;
-    none_piece(words, order, d + most, len - most, operation);
-}
-
-// The operation into the left span; right bits past its end count as false: 1 to 3 of the left, 1 to 3 of the right, 6.
-pub fn boolean(
-    words: &mut [u64],
-    span: Span,
-    right: &[u64],
-    right_span: Span,
-    operation: u8,
-) -> WriteAnswer
-    ensures { λ r. ⌜ Gives 64 (boolean operation span (now (right .entry)) «right_span») (now (words .entry)) (writeSays r) (now (words .exit)) ⌝ }
-{
-    let verdict = check_pair(Width::W64, words.len(), span, right.len(), right_span);
-    match verdict {
-        Verdict::Refused(no) => WriteAnswer::Refused(no),
-        Verdict::Fine => {
-            let order = span.order;
-            let len = span.len;
-            let d = span.word * 64 + span.head.0;
-            let s = right_span.word * 64 + right_span.head.0;
-            let m = least(len, right_span.len);
-            between(words, order, d, m, operation, right, s);
-            rest(words, order, d + m, len - m, operation);
-            WriteAnswer::Done
-        }
-    }
+    let bit = (operation >> k) % 2;
+    let ones = ONES;
+    if bit == 0 { 0 } else { ones }
 }

@@ -1,7 +1,7 @@
 -- No second answer and no second memory keeps the promise of `copy_from`, as the source states it. Assumes nothing.
 use mathlib.Core.Path.{_≡_}
 use denote.Ref.{now}
-use Rattle.rules.proofs.OneAnswer.{only, one-write}
+use Rattle.rules.proofs.refusals.OneAnswer.{only, one-write}
 use Rattle.copy8.proofs.copy_from.Reads as copy-from
 
 copy-from-only : (κs : _) (a : _) (r r′ : _) (x x′ : _) → copy-from.Post κs a r x → copy-from.Post κs a r′ x′ → (r ≡ r′) × (now (x .0) ≡ now (x′ .0))

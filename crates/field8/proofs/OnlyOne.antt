@@ -1,7 +1,7 @@
 -- No second answer, and no second memory, satisfies the promise of a call as the source states it. Assumes nothing.
 use mathlib.Core.Path.{_≡_, sym, _∙_}
 use denote.Ref.{now}
-use Rattle.rules.proofs.OneAnswer.{one-bit, one-number-answer, one-write, only}
+use Rattle.rules.proofs.refusals.OneAnswer.{one-bit, one-number-answer, one-write, only}
 use Rattle.field8.proofs.read_bit.Reads as read-bit
 use Rattle.field8.proofs.write_bit.Reads as write-bit
 use Rattle.field8.proofs.load.Reads as load

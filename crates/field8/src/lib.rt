@@ -1,15 +1,8 @@
-// Single bits and fields of words of 8 bits. Every call takes any arguments; its promise is document 01's answer to them, and each lent word.
-mod bits;
-mod chunks;
-mod near;
-mod pairings;
-mod parts;
-mod words;
-
-use crate::pairings::load_by;
-use crate::pairings::store_by;
-use crate::parts::put_piece;
-use crate::words::word_at;
+// Single bits and fields of words of 8 bits. Every call takes any arguments: its promise is the rules' answer to them, and each lent word.
+use bits8::load_by;
+use bits8::put_piece;
+use bits8::store_by;
+use chunk8::word_at;
 use rules::BitAnswer;
 use rules::Index;
 use rules::Number;
@@ -20,94 +13,90 @@ use rules::Span;
 use rules::Verdict;
 use rules::Width;
 use rules::WriteAnswer;
+use word8::W;
+use word8::Word;
 ghost use mathlib.Core.Path.{_≡_};
+ghost use Rattle.word8.specs.Width.{W};
 ghost use Rattle.rules.specs.Fields.{whole};
 ghost use Rattle.rules.specs.Calls.{readBit, writeBit, load as loadCall, store as storeCall, storeStrict, answer, after, digit};
 ghost use Rattle.rules.specs.Answers.{bitSays, numberSays, writeSays, Gives};
 
-// Bit `index` of a span; refusals 1 to 3 and 10.
-pub fn read_bit(words: &[u8], span: Span, index: usize) -> BitAnswer
-    ensures { λ r. ⌜ bitSays r ≡ answer 8 (readBit span index) (now (words .entry)) ⌝ }
+// Bit `index` of a span. Refusals 1 to 3, 10.
+pub fn read_bit(words: &[Word], span: Span, index: usize) -> BitAnswer
+    ensures { λ r. ⌜ bitSays r ≡ answer W (readBit span index) (now (words .entry)) ⌝ }
 {
-    let verdict = pieces::check_bit(Width::W8, words.len(), span, index);
+    let verdict = refusals::check_bit(Width::W8, words.len(), span, index);
     match verdict {
         Verdict::Refused(no) => BitAnswer::Refused(no),
         Verdict::Fine => {
             let order = span.order;
             let t = span.head.0 + index;
-            let word = span.word + t / 8;
-            let position = Index(t % 8).position(Width::W8, order);
-            let selector = position.select();
+            let word = span.word + t / W;
+            let position = wordless::position_of(Width::W8, order, Index(t % W));
+            let selector = wordless::selector_at(position);
             let x = word_at(words, word);
             BitAnswer::Is(x & selector.0 != 0)
         }
     }
 }
 
-// A bit as a number.
-fn digit_of(bit: bool) -> u64
-    ensures { λ r. ⌜ r ≡ digit bit ⌝ }
+// Bit `index` of a span becomes `bit`; all others stay. Refusals 1 to 3, 10.
+pub fn write_bit(words: &mut [Word], span: Span, index: usize, bit: bool) -> WriteAnswer
+    ensures { λ r. ⌜ Gives W (writeBit span index bit) (now (words .entry)) (writeSays r) (now (words .exit)) ⌝ }
 {
-    if bit { 1 } else { 0 }
-}
-
-// Bit `index` of a span becomes `bit`, all others stay; refusals 1 to 3 and 10.
-pub fn write_bit(words: &mut [u8], span: Span, index: usize, bit: bool) -> WriteAnswer
-    ensures { λ r. ⌜ Gives 8 (writeBit span index bit) (now (words .entry)) (writeSays r) (now (words .exit)) ⌝ }
-{
-    let verdict = pieces::check_bit(Width::W8, words.len(), span, index);
+    let verdict = refusals::check_bit(Width::W8, words.len(), span, index);
     match verdict {
         Verdict::Refused(no) => WriteAnswer::Refused(no),
         Verdict::Fine => {
             let order = span.order;
             let t = span.head.0 + index;
-            let word = span.word + t / 8;
+            let word = span.word + t / W;
             let value = digit_of(bit);
-            put_piece(words, order, word, Index(t % 8), 1, value);
+            put_piece(words, order, word, Index(t % W), 1, value);
             WriteAnswer::Done
         }
     }
 }
 
-// The number that a field of 1 to K bits holds; refusals 1 to 5.
+// The number that a field holds: the span's 1 to k bits, read by the significance and the sign. Refusals 1 to 5.
 pub fn load(
-    words: &[u8],
+    words: &[Word],
     span: Span,
     k: usize,
     significance: Significance,
     sign: Sign,
 ) -> NumberAnswer
-    ensures { λ r. ⌜ numberSays r ≡ answer 8 (loadCall span k significance sign) (now (words .entry)) ⌝ }
+    ensures { λ r. ⌜ numberSays r ≡ answer W (loadCall span k significance sign) (now (words .entry)) ⌝ }
 {
-    let verdict = pieces::check_load(Width::W8, words.len(), span, k);
+    let verdict = refusals::check_load(Width::W8, words.len(), span, k);
     match verdict {
         Verdict::Refused(no) => NumberAnswer::Refused(no),
         Verdict::Fine => {
             let order = span.order;
             let len = span.len;
             let u = load_by(words, order, significance, span.word, span.head, len);
-            NumberAnswer::Is(Number::of_bits(u, len, sign))
+            NumberAnswer::Is(wordless::of_bits(u, len, sign))
         }
     }
 }
 
-// The low bits of a K-bit value, stored so that a load returns them; refusals 1 to 5 and 8.
+// The low bits of a value, placed in the field so that a load returns them. Refusals 1 to 5, 8.
 pub fn store(
-    words: &mut [u8],
+    words: &mut [Word],
     span: Span,
     k: usize,
     significance: Significance,
     sign: Sign,
     value: Number,
 ) -> WriteAnswer
-    ensures { λ r. ⌜ Gives 8 (storeCall span k significance sign (whole value)) (now (words .entry)) (writeSays r) (now (words .exit)) ⌝ }
+    ensures { λ r. ⌜ Gives W (storeCall span k significance sign (whole value)) (now (words .entry)) (writeSays r) (now (words .exit)) ⌝ }
 {
-    let verdict = pieces::check_store(Width::W8, words.len(), span, k, sign, value);
+    let verdict = refusals::check_store(Width::W8, words.len(), span, k, sign, value);
     match verdict {
         Verdict::Refused(no) => WriteAnswer::Refused(no),
         Verdict::Fine => {
             let order = span.order;
-            let v = value.bits(k, sign);
+            let v = wordless::bits(value, k, sign);
             store_by(
                 words,
                 order,
@@ -122,23 +111,23 @@ pub fn store(
     }
 }
 
-// The same of a value that fits the field; refusals 1 to 5, 8 and 9.
+// A value placed in the field only if it fits, so that a load returns the value itself. Refusals 1 to 5, 8, 9.
 pub fn store_strict(
-    words: &mut [u8],
+    words: &mut [Word],
     span: Span,
     k: usize,
     significance: Significance,
     sign: Sign,
     value: Number,
 ) -> WriteAnswer
-    ensures { λ r. ⌜ Gives 8 (storeStrict span k significance sign (whole value)) (now (words .entry)) (writeSays r) (now (words .exit)) ⌝ }
+    ensures { λ r. ⌜ Gives W (storeStrict span k significance sign (whole value)) (now (words .entry)) (writeSays r) (now (words .exit)) ⌝ }
 {
-    let verdict = pieces::check_store_strict(Width::W8, words.len(), span, k, sign, value);
+    let verdict = refusals::check_store_strict(Width::W8, words.len(), span, k, sign, value);
     match verdict {
         Verdict::Refused(no) => WriteAnswer::Refused(no),
         Verdict::Fine => {
             let order = span.order;
-            let v = value.bits(k, sign);
+            let v = wordless::bits(value, k, sign);
             store_by(
                 words,
                 order,
@@ -151,4 +140,11 @@ pub fn store_strict(
             WriteAnswer::Done
         }
     }
+}
+
+// A bit as a number: 1 for true.
+fn digit_of(bit: bool) -> u64
+    ensures { λ r. ⌜ r ≡ digit bit ⌝ }
+{
+    if bit { 1 } else { 0 }
 }

@@ -12,7 +12,8 @@ use Rattle.rules.specs.declared.Span.{Span}
 use Rattle.rules.specs.declared.Significance.the-variants.{Le}
 use Rattle.rules.specs.declared.Sign.the-variants.{Unsigned}
 use Rattle.rules.specs.Positions.{span}
-use Rattle.rules.specs.Calls.{Answer, refused, done, a-position, a-selector, a-mask, a-span, two-spans, a-bit, a-number, says-yes, says-no, found-at, absent, load, store, answer, after}
+use Rattle.rules.specs.Calls.{Answer, refused, done, a-position, a-selector, a-mask, a-span, two-spans, a-bit, a-number, says-yes, says-no}
+use Rattle.rules.specs.Calls.{found-at, absent, load, store, answer, after}
 
 -- the field of k bits at a head of a word
 abbrev pub fieldAt : ℕ → ℕ → ℕ → Span

@@ -1,4 +1,4 @@
-// Fields of rows of 64-bit words, known to be Lsb0 le.
+// Fields of rows of words of 64 bits, known to be Lsb0 le.
 use crate::taken::field;
 use crate::taken::mix_in;
 use crate::taken::unsigned;

@@ -1,7 +1,7 @@
 -- No second reply and no second memory keeps the promise of `perform`. Assumes nothing.
 use mathlib.Core.Path.{_≡_}
 use denote.Ref.{now}
-use Rattle.rules.proofs.OneAnswer.{only}
+use Rattle.rules.proofs.refusals.OneAnswer.{only}
 use Rattle.requests.proofs.OneReply.{one-reply}
 use Rattle.perform64.proofs.perform.Reads as perform
 

@@ -3,59 +3,16 @@ use requests::Reply;
 use requests::Request;
 use requests::Side;
 use rules::Span;
+use word64::Word;
 ghost use mathlib.Core.Path.{_≡_};
+ghost use Rattle.word64.specs.Width.{W};
 ghost use Rattle.rules.specs.Calls.{findFirst, findLast, equal, digit, answer, after};
 ghost use Rattle.rules.specs.Answers.{Gives};
 ghost use Rattle.requests.specs.Requests.{sideOf, callOf, replySays};
 
-// A comparison whose sides lie in either buffer.
-fn equal(
-    words: &[u64],
-    other: &[u64],
-    left: Side,
-    left_span: Span,
-    right: Side,
-    right_span: Span,
-) -> Reply
-    ensures { λ r. ⌜ replySays r ≡ answer 64 (equal (sideOf left (now (other .entry))) «left_span» (sideOf right (now (other .entry))) «right_span») (now (words .entry)) ⌝ }
-{
-    match left {
-        Side::Here => match right {
-            Side::Here => Reply::of_equal(equal64::equal(words, left_span, words, right_span)),
-            Side::There => Reply::of_equal(equal64::equal(words, left_span, other, right_span)),
-        },
-        Side::There => match right {
-            Side::Here => Reply::of_equal(equal64::equal(other, left_span, words, right_span)),
-            Side::There => Reply::of_equal(equal64::equal(other, left_span, other, right_span)),
-        },
-    }
-}
-
-// A first search for either bit.
-fn first(words: &[u64], bit: bool, span: Span) -> Reply
-    ensures { λ r. ⌜ replySays r ≡ answer 64 (findFirst (digit bit) span) (now (words .entry)) ⌝ }
-{
-    if bit {
-        Reply::of_search(search64::first_one(words, span))
-    } else {
-        Reply::of_search(search64::first_zero(words, span))
-    }
-}
-
-// A last search for either bit.
-fn last(words: &[u64], bit: bool, span: Span) -> Reply
-    ensures { λ r. ⌜ replySays r ≡ answer 64 (findLast (digit bit) span) (now (words .entry)) ⌝ }
-{
-    if bit {
-        Reply::of_search(search64::last_one(words, span))
-    } else {
-        Reply::of_search(search64::last_zero(words, span))
-    }
-}
-
-// Performs a request on the words, with a second, read-only buffer beside it.
-pub fn perform(words: &mut [u64], other: &[u64], request: Request) -> Reply
-    ensures { λ r. ⌜ Gives 64 (callOf request (now (other .entry))) (now (words .entry)) (replySays r) (now (words .exit)) ⌝ }
+// Performs a request on the words, with a second, read-only buffer beside it, and gives the call's own answer. For any request.
+pub fn perform(words: &mut [Word], other: &[Word], request: Request) -> Reply
+    ensures { λ r. ⌜ Gives W (callOf request (now (other .entry))) (now (words .entry)) (replySays r) (now (words .exit)) ⌝ }
 {
     match request {
         Request::ReadBit(span, index) => Reply::of_bit(field64::read_bit(words, span, index)),
@@ -85,5 +42,51 @@ pub fn perform(words: &mut [u64], other: &[u64], request: Request) -> Reply
         }
         Request::FindFirst(bit, span) => first(words, bit, span),
         Request::FindLast(bit, span) => last(words, bit, span),
+    }
+}
+
+// A search for the last one or zero.
+fn last(words: &[Word], bit: bool, span: Span) -> Reply
+    ensures { λ r. ⌜ replySays r ≡ answer W (findLast (digit bit) span) (now (words .entry)) ⌝ }
+{
+    if bit {
+        Reply::of_search(search64::last_one(words, span))
+    } else {
+        Reply::of_search(search64::last_zero(words, span))
+    }
+}
+
+// A search for the first one or zero.
+fn first(words: &[Word], bit: bool, span: Span) -> Reply
+    ensures { λ r. ⌜ replySays r ≡ answer W (findFirst (digit bit) span) (now (words .entry)) ⌝ }
+{
+    if bit {
+        Reply::of_search(search64::first_one(words, span))
+    } else {
+        Reply::of_search(search64::first_zero(words, span))
+    }
+}
+
+// A comparison, each side of which lies in either buffer.
+fn equal(
+    words: &[Word],
+    other: &[Word],
+    left: Side,
+    left_span: Span,
+    right: Side,
+    right_span: Span,
+) -> Reply
+    ensures { λ r. ⌜ replySays r ≡ answer W (equal (sideOf left (now (other .entry))) «left_span» (sideOf right (now (other .entry))) «right_span»)
+        (now (words .entry)) ⌝ }
+{
+    match left {
+        Side::Here => match right {
+            Side::Here => Reply::of_equal(equal64::equal(words, left_span, words, right_span)),
+            Side::There => Reply::of_equal(equal64::equal(words, left_span, other, right_span)),
+        },
+        Side::There => match right {
+            Side::Here => Reply::of_equal(equal64::equal(other, left_span, words, right_span)),
+            Side::There => Reply::of_equal(equal64::equal(other, left_span, other, right_span)),
+        },
     }
 }

@@ -6,23 +6,21 @@ use records::parts::size;
 use records::seen;
 use records::seen::Given;
 use stableply::fields64;
+use word64::Word;
 
-fn read_bit(record: &[u8], words: &[u64]) -> Given {
-    let mut out = 0u8;
-    let returned = fields64::stableply64_read_bit(
-        words,
-        code(record, 1),
-        size(record, 2),
-        size(record, 3),
-        size(record, 4),
-        size(record, 5),
-        &mut out,
-    );
-    seen::one(returned, out as u64)
+// Makes the call, one of 4 to 8.
+pub fn made(record: &[u8], words: &mut [Word]) -> Given {
+    match call_of(record) {
+        4 => read_bit(record, words),
+        5 => write_bit(record, words),
+        6 => load(record, words),
+        7 => store(record, words),
+        _ => store_strict(record, words),
+    }
 }
 
-fn write_bit(record: &[u8], words: &mut [u64]) -> Given {
-    seen::none(fields64::stableply64_write_bit(
+fn store_strict(record: &[u8], words: &mut [Word]) -> Given {
+    seen::none(fields64::stableply64_store_strict(
         words,
         code(record, 1),
         size(record, 2),
@@ -30,10 +28,28 @@ fn write_bit(record: &[u8], words: &mut [u64]) -> Given {
         size(record, 4),
         size(record, 5),
         code(record, 6),
+        code(record, 7),
+        code(record, 8),
+        number(record, 9),
     ))
 }
 
-fn load(record: &[u8], words: &[u64]) -> Given {
+fn store(record: &[u8], words: &mut [Word]) -> Given {
+    seen::none(fields64::stableply64_store(
+        words,
+        code(record, 1),
+        size(record, 2),
+        size(record, 3),
+        size(record, 4),
+        size(record, 5),
+        code(record, 6),
+        code(record, 7),
+        code(record, 8),
+        number(record, 9),
+    ))
+}
+
+fn load(record: &[u8], words: &[Word]) -> Given {
     let mut out: u64 = 0;
     let returned = fields64::stableply64_load(
         words,
@@ -49,8 +65,8 @@ fn load(record: &[u8], words: &[u64]) -> Given {
     seen::one(returned, out)
 }
 
-fn store(record: &[u8], words: &mut [u64]) -> Given {
-    seen::none(fields64::stableply64_store(
+fn write_bit(record: &[u8], words: &mut [Word]) -> Given {
+    seen::none(fields64::stableply64_write_bit(
         words,
         code(record, 1),
         size(record, 2),
@@ -58,34 +74,19 @@ fn store(record: &[u8], words: &mut [u64]) -> Given {
         size(record, 4),
         size(record, 5),
         code(record, 6),
-        code(record, 7),
-        code(record, 8),
-        number(record, 9),
     ))
 }
 
-fn store_strict(record: &[u8], words: &mut [u64]) -> Given {
-    seen::none(fields64::stableply64_store_strict(
+fn read_bit(record: &[u8], words: &[Word]) -> Given {
+    let mut out = 0u8;
+    let returned = fields64::stableply64_read_bit(
         words,
         code(record, 1),
         size(record, 2),
         size(record, 3),
         size(record, 4),
         size(record, 5),
-        code(record, 6),
-        code(record, 7),
-        code(record, 8),
-        number(record, 9),
-    ))
-}
-
-// Makes the call, one of 4 to 8.
-pub fn made(record: &[u8], words: &mut [u64]) -> Given {
-    match call_of(record) {
-        4 => read_bit(record, words),
-        5 => write_bit(record, words),
-        6 => load(record, words),
-        7 => store(record, words),
-        _ => store_strict(record, words),
-    }
+        &mut out,
+    );
+    seen::one(returned, out as u64)
 }

@@ -5,53 +5,19 @@ use records::parts::size;
 use records::seen;
 use records::seen::Given;
 use stableply::searches64;
+use word64::Word;
 
-fn first_one(record: &[u8], words: &[u64]) -> Given {
-    let mut found = 0u8;
-    let mut at: usize = 0;
-    let returned = searches64::stableply64_first_one(
-        words,
-        code(record, 1),
-        size(record, 2),
-        size(record, 3),
-        size(record, 4),
-        &mut found,
-        &mut at,
-    );
-    seen::two(returned, found as u64, at as u64)
+// Makes the search, one of 14 to 17.
+pub fn made(record: &[u8], words: &[Word]) -> Given {
+    match call_of(record) {
+        14 => first_one(record, words),
+        15 => last_one(record, words),
+        16 => first_zero(record, words),
+        _ => last_zero(record, words),
+    }
 }
 
-fn last_one(record: &[u8], words: &[u64]) -> Given {
-    let mut found = 0u8;
-    let mut at: usize = 0;
-    let returned = searches64::stableply64_last_one(
-        words,
-        code(record, 1),
-        size(record, 2),
-        size(record, 3),
-        size(record, 4),
-        &mut found,
-        &mut at,
-    );
-    seen::two(returned, found as u64, at as u64)
-}
-
-fn first_zero(record: &[u8], words: &[u64]) -> Given {
-    let mut found = 0u8;
-    let mut at: usize = 0;
-    let returned = searches64::stableply64_first_zero(
-        words,
-        code(record, 1),
-        size(record, 2),
-        size(record, 3),
-        size(record, 4),
-        &mut found,
-        &mut at,
-    );
-    seen::two(returned, found as u64, at as u64)
-}
-
-fn last_zero(record: &[u8], words: &[u64]) -> Given {
+fn last_zero(record: &[u8], words: &[Word]) -> Given {
     let mut found = 0u8;
     let mut at: usize = 0;
     let returned = searches64::stableply64_last_zero(
@@ -66,12 +32,47 @@ fn last_zero(record: &[u8], words: &[u64]) -> Given {
     seen::two(returned, found as u64, at as u64)
 }
 
-// Makes the search, one of 14 to 17.
-pub fn made(record: &[u8], words: &[u64]) -> Given {
-    match call_of(record) {
-        14 => first_one(record, words),
-        15 => last_one(record, words),
-        16 => first_zero(record, words),
-        _ => last_zero(record, words),
-    }
+fn first_zero(record: &[u8], words: &[Word]) -> Given {
+    let mut found = 0u8;
+    let mut at: usize = 0;
+    let returned = searches64::stableply64_first_zero(
+        words,
+        code(record, 1),
+        size(record, 2),
+        size(record, 3),
+        size(record, 4),
+        &mut found,
+        &mut at,
+    );
+    seen::two(returned, found as u64, at as u64)
+}
+
+fn last_one(record: &[u8], words: &[Word]) -> Given {
+    let mut found = 0u8;
+    let mut at: usize = 0;
+    let returned = searches64::stableply64_last_one(
+        words,
+        code(record, 1),
+        size(record, 2),
+        size(record, 3),
+        size(record, 4),
+        &mut found,
+        &mut at,
+    );
+    seen::two(returned, found as u64, at as u64)
+}
+
+fn first_one(record: &[u8], words: &[Word]) -> Given {
+    let mut found = 0u8;
+    let mut at: usize = 0;
+    let returned = searches64::stableply64_first_one(
+        words,
+        code(record, 1),
+        size(record, 2),
+        size(record, 3),
+        size(record, 4),
+        &mut found,
+        &mut at,
+    );
+    seen::two(returned, found as u64, at as u64)
 }

@@ -14,21 +14,17 @@ use records::places::second_at;
 use records::places::second_lent;
 use records::seen::Given;
 use records::seen::Seen;
+use word8::Word;
 
-// Makes the call, one of 4 to 17, on words that are set.
-fn made(record: &[u8], first: &mut [u8], second: &mut [u8]) -> Given {
-    let call = call_of(record);
-    if call < 9 {
-        return fields::made(record, first);
-    }
-    if call < 14 {
-        return rows::made(record, first, second);
-    }
-    searches::made(record, first)
+// The same, on words of which there are at least as many.
+pub fn seen(record: &[u8], first: &mut [Word], second: &mut [Word]) -> Seen {
+    let lent = lendable(first_lent(record), first.len());
+    let other = lendable(second_lent(record), second.len());
+    seen_on(record, &mut first[0..lent], &mut second[0..other])
 }
 
 // What is seen after the call, on words as many as the record lends.
-fn seen_on(record: &[u8], first: &mut [u8], second: &mut [u8]) -> Seen {
+fn seen_on(record: &[u8], first: &mut [Word], second: &mut [Word]) -> Seen {
     words::fill(first, record, first_at(record));
     words::fill(second, record, second_at(record));
     let given = made(record, first, second);
@@ -41,9 +37,14 @@ fn seen_on(record: &[u8], first: &mut [u8], second: &mut [u8]) -> Seen {
     }
 }
 
-// The same, on words of which there are at least as many.
-pub fn seen(record: &[u8], first: &mut [u8], second: &mut [u8]) -> Seen {
-    let lent = lendable(first_lent(record), first.len());
-    let other = lendable(second_lent(record), second.len());
-    seen_on(record, &mut first[0..lent], &mut second[0..other])
+// Makes the call, one of 4 to 17, on words that are set.
+fn made(record: &[u8], first: &mut [Word], second: &mut [Word]) -> Given {
+    let call = call_of(record);
+    if call < 9 {
+        return fields::made(record, first);
+    }
+    if call < 14 {
+        return rows::made(record, first, second);
+    }
+    searches::made(record, first)
 }

@@ -7,7 +7,8 @@ use Rattle.rules.specs.Calls as calls
 use Rattle.requests.specs.declared.Side.{Side}
 use Rattle.requests.specs.declared.Side.the-variants.{Here, There}
 use Rattle.requests.specs.declared.Request.{Request}
-use Rattle.requests.specs.declared.Request.the-variants.{ReadBit, WriteBit, Load, Store, StoreStrict, CopyFrom, CopyWithin, Boolean, Equal, FindFirst, FindLast}
+use Rattle.requests.specs.declared.Request.the-variants.{ReadBit, WriteBit, Load, Store, StoreStrict, CopyFrom, CopyWithin, Boolean}
+use Rattle.requests.specs.declared.Request.the-variants.{Equal, FindFirst, FindLast}
 use Rattle.requests.specs.declared.Reply.{Reply}
 use Rattle.requests.specs.declared.Reply.the-variants.{Refused, Done, Bit, Number, Yes, No, At, Absent}
 

@@ -4,10 +4,16 @@ use Prim.Native.Nat.{ℕ}
 use mathlib.Core.Path.{_≡_}
 use mathlib.Core.List.{List}
 use lib.IntN.{pos}
-use Rattle.rules.specs.Types.{Span, Verdict, Fine, Refused, PositionAnswer, Position·Is, Position·Refused, SelectorAnswer, Selector·Is, Selector·Refused, MaskAnswer, Mask·Is, Mask·Refused, SplitAnswer, Parts, Split·Refused, SpanAnswer, Span·Is, Span·Refused, BitAnswer, Bit·Is, Bit·Refused, NumberAnswer, Number·Is, Number·Refused, LowBitsAnswer, LowBits·Is, LowBits·Refused, MachineAnswer, Machine·Is, Machine·Refused, WriteAnswer, Done, Write·Refused, EqualAnswer, Yes, No, Equal·Refused, SearchAnswer, At, Absent, Search·Refused}
+use Rattle.rules.specs.Types.{Span, Verdict, Fine, Refused, PositionAnswer, Position·Is, Position·Refused, SelectorAnswer}
+use Rattle.rules.specs.Types.{Selector·Is, Selector·Refused, MaskAnswer, Mask·Is, Mask·Refused, SplitAnswer, Parts, Split·Refused}
+use Rattle.rules.specs.Types.{SpanAnswer, Span·Is, Span·Refused, BitAnswer, Bit·Is, Bit·Refused, NumberAnswer, Number·Is}
+use Rattle.rules.specs.Types.{Number·Refused, LowBitsAnswer, LowBits·Is, LowBits·Refused, MachineAnswer, Machine·Is, Machine·Refused}
+use Rattle.rules.specs.Types.{WriteAnswer, Done, Write·Refused, EqualAnswer, Yes, No, Equal·Refused, SearchAnswer, At, Absent}
+use Rattle.rules.specs.Types.{Search·Refused}
 use Rattle.rules.specs.Fields.{whole}
 use Rattle.rules.specs.Refusals.{Case, number, verdict}
-use Rattle.rules.specs.Calls.{Answer, refused, done, a-position, a-selector, a-mask, a-span, two-spans, a-bit, a-number, says-yes, says-no, found-at, absent, digit, Call, answer, after, swapAnswer, swapLeft, swapRight}
+use Rattle.rules.specs.Calls.{Answer, refused, done, a-position, a-selector, a-mask, a-span, two-spans, a-bit, a-number, says-yes}
+use Rattle.rules.specs.Calls.{says-no, found-at, absent, digit, Call, answer, after, swapAnswer, swapLeft, swapRight}
 
 -- a check: nothing to refuse, or a refusal's number
 abbrev pub verdictSays : Verdict → Answer

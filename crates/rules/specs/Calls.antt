@@ -10,7 +10,9 @@ use Rattle.rules.specs.Types.{Order, Span, Significance, Sign, Verdict, 
 use Rattle.rules.specs.Positions.{position, selector, mask, start, spanBit, firstHalf, secondHalf, spliced, covers}
 use Rattle.rules.specs.Fields.{loadOf, readAs, bitsOf, storeOf}
 use Rattle.rules.specs.Rows.{copied, copiedWithin, combined, sameSpans, firstWith, lastWith}
-use Rattle.rules.specs.Refusals.{Case, number, verdict, spanCases, indexCases, maskCases, splitCases, bitCases, fieldCases, valueCases, fittingCases, machineCases, loadCases, storeCases, storeStrictCases, pairCases, copyCases, withinCases}
+use Rattle.rules.specs.Refusals.{Case, number, verdict, spanCases, indexCases, maskCases, splitCases, bitCases, fieldCases}
+use Rattle.rules.specs.Refusals.{valueCases, fittingCases, machineCases, loadCases, storeCases, storeStrictCases, pairCases}
+use Rattle.rules.specs.Refusals.{copyCases, withinCases}
 
 -- what a call may answer
 pub data Answer : Type 0 where

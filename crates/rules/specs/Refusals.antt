@@ -5,7 +5,8 @@ use mathlib.Core.Bool.{Bool, true, false, _||_, not}
 use mathlib.Core.List.{List, [], _∷_, _++_}
 use lib.Dec.{leb, ltb, eqb}
 use lib.IntN.{ℤ}
-use Rattle.rules.specs.Types.{Order, Lsb0, Msb0, Span, Sign, Signed, Refusal, TooManyWords, IndexTooLarge, OutOfBounds, NoSuchK, FieldLength, OrdersDiffer, LengthsDiffer, NotAnInteger, DoesNotFit, NotBelow, Verdict, Fine, Refused}
+use Rattle.rules.specs.Types.{Order, Lsb0, Msb0, Span, Sign, Signed, Refusal, TooManyWords, IndexTooLarge, OutOfBounds, NoSuchK}
+use Rattle.rules.specs.Types.{FieldLength, OrdersDiffer, LengthsDiffer, NotAnInteger, DoesNotFit, NotBelow, Verdict, Fine, Refused}
 use Rattle.rules.specs.Positions.{inBounds}
 use Rattle.rules.specs.Fields.{isSize, isInteger, fits}
 

@@ -1,6 +1,6 @@
 -- No second answer satisfies the promise of a search, as its source states it. Assumes nothing.
 use mathlib.Core.Path.{_≡_, sym, _∙_}
-use Rattle.rules.proofs.OneAnswer.{one-search}
+use Rattle.rules.proofs.refusals.OneAnswer.{one-search}
 use Rattle.search64.proofs.first_one.Reads as first-one
 use Rattle.search64.proofs.last_one.Reads as last-one
 use Rattle.search64.proofs.first_zero.Reads as first-zero

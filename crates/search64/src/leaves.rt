@@ -1,19 +1,28 @@
-// The leaves, which know the word's type: the bits sought in a word, and blocks of words that have none.
+// What the searches do to words: the bits that are sought in one, and blocks that have none.
 use rules::Index;
 use rules::Order;
+use word64::Word;
 use word64::flip;
 use word64::mask;
 use word64::under;
 ghost use mathlib.Core.Path.{_≡_};
 ghost use Prim.Native.Nat.{_+_, _-_, _*_, _≤_};
 ghost use lib.ListN.{length, getD};
-ghost use Rattle.rules.proofs.WordSearch.{masked};
-ghost use Rattle.rules.proofs.Alike.{Alike, Gathered};
+ghost use Rattle.word64.specs.Width.{W};
+ghost use Rattle.laws.proofs.searches.WordSearch.{masked};
+ghost use Rattle.laws.proofs.searches.Alike.{Alike, Gathered};
 
-// The bits sought among the n from index `head` of word k on, as the ones of a word.
-pub fn sought_in(words: &[u64], order: Order, sought: bool, k: usize, head: Index, n: usize) -> u64
-    requires { ⌜ (1 ≤ n) × (head .0 + n ≤ 64) × (k * 64 + head .0 + n ≤ length (now words) * 64) ⌝ }
-    ensures { λ r. ⌜ r ≡ masked 64 order sought (getD (now (words .entry)) k 0) (head .0) n ⌝ }
+// The bits that are sought among the n from index `head` of word k on, as the ones of a word.
+pub fn sought_in(
+    words: &[Word],
+    order: Order,
+    sought: bool,
+    k: usize,
+    head: Index,
+    n: usize,
+) -> Word
+    requires { ⌜ (1 ≤ n) × (head .0 + n ≤ W) × (k * W + head .0 + n ≤ length (now words) * W) ⌝ }
+    ensures { λ r. ⌜ r ≡ masked W order sought (getD (now (words .entry)) k 0) (head .0) n ⌝ }
 {
     let f = flip(sought);
     let m = mask(order, head, n);
@@ -21,21 +30,8 @@ pub fn sought_in(words: &[u64], order: Order, sought: bool, k: usize, head: Inde
     under(m, x)
 }
 
-// Zero exactly if each word is f.
-fn gather(words: &[u64], f: u64) -> u64
-    ensures { λ r. ⌜ Gathered f (now (words .entry)) (length (now (words .entry))) r ⌝ }
-{
-    let mut v: u64 = 0;
-    let mut i: usize = 0;
-    while i < words.len() {
-        v = v | (words[i] ^ f);
-        i = i + 1;
-    }
-    v
-}
-
-// Up from a past blocks of f, to a block that is not or to less than a block.
-pub fn pass_up(words: &[u64], a: usize, e: usize, f: u64, size: usize) -> usize
+// Up from word a past blocks of `size` words that are all f: to a block that is not, or to where less than a block is left below e.
+pub fn pass_up(words: &[Word], a: usize, e: usize, f: Word, size: usize) -> usize
     requires { ⌜ (a ≤ e) × (e ≤ length (now words)) × (1 ≤ size) ⌝ }
     ensures { λ r. ⌜ (a ≤ r) × (r ≤ e) × Alike f (now (words .entry)) a r × (r + size ≤ e → Alike f (now (words .entry)) r (r + size) → ⊥) ⌝ }
 {
@@ -50,8 +46,8 @@ pub fn pass_up(words: &[u64], a: usize, e: usize, f: u64, size: usize) -> usize
     i
 }
 
-// Down from e past blocks of f, to a block that is not or to less than a block.
-pub fn pass_down(words: &[u64], a: usize, e: usize, f: u64, size: usize) -> usize
+// Down from word e past blocks of `size` words that are all f: to a block that is not, or to where less than a block is left above a.
+pub fn pass_down(words: &[Word], a: usize, e: usize, f: Word, size: usize) -> usize
     requires { ⌜ (a ≤ e) × (e ≤ length (now words)) × (1 ≤ size) ⌝ }
     ensures { λ r. ⌜ (a ≤ r) × (r ≤ e) × Alike f (now (words .entry)) r e × (a + size ≤ r → Alike f (now (words .entry)) (r - size) r → ⊥) ⌝ }
 {
@@ -64,4 +60,17 @@ pub fn pass_down(words: &[u64], a: usize, e: usize, f: u64, size: usize) -> usiz
         i = j;
     }
     i
+}
+
+// 0 exactly if each word is f. There is no exit inside, so that the compiler makes vector code of it.
+fn gather(words: &[Word], f: Word) -> Word
+    ensures { λ r. ⌜ Gathered f (now (words .entry)) (length (now (words .entry))) r ⌝ }
+{
+    let mut v: Word = 0;
+    let mut i: usize = 0;
+    while i < words.len() {
+        v = v | (words[i] ^ f);
+        i = i + 1;
+    }
+    v
 }

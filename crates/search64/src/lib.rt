@@ -1,4 +1,4 @@
-// The four searches over words of 64 bits: the smallest or largest index, counted from the span's start, of a one or a zero.
+// The four searches over words of 64 bits: the smallest or the largest index, counted from the span's start, of a one or a zero.
 mod backward;
 mod forward;
 mod leaves;
@@ -10,14 +10,16 @@ use rules::SearchAnswer;
 use rules::Span;
 use rules::Verdict;
 use rules::Width;
+use word64::Word;
 ghost use mathlib.Core.Path.{_≡_};
+ghost use Rattle.word64.specs.Width.{W};
 ghost use Rattle.rules.specs.Refusals.{spanCases};
 ghost use Rattle.rules.specs.Calls.{findFirst, findLast, firstFound, lastFound, answer};
 ghost use Rattle.rules.specs.Answers.{Judges, searchSays};
 
-// The smallest index of a one, or absent exactly if there is none; refusals 1 to 3.
-pub fn first_one(words: &[u64], span: Span) -> SearchAnswer
-    ensures { λ r. ⌜ searchSays r ≡ answer 64 (findFirst 1 span) (now (words .entry)) ⌝ }
+// The smallest index of a one, or absent exactly if there is none. Refusals 1 to 3.
+pub fn first_one(words: &[Word], span: Span) -> SearchAnswer
+    ensures { λ r. ⌜ searchSays r ≡ answer W (findFirst 1 span) (now (words .entry)) ⌝ }
 {
     let verdict = checked(span, words.len());
     match verdict {
@@ -30,9 +32,9 @@ pub fn first_one(words: &[u64], span: Span) -> SearchAnswer
     }
 }
 
-// The smallest index of a zero, or absent exactly if there is none; refusals 1 to 3.
-pub fn first_zero(words: &[u64], span: Span) -> SearchAnswer
-    ensures { λ r. ⌜ searchSays r ≡ answer 64 (findFirst 0 span) (now (words .entry)) ⌝ }
+// The smallest index of a zero, or absent exactly if there is none. Refusals 1 to 3.
+pub fn first_zero(words: &[Word], span: Span) -> SearchAnswer
+    ensures { λ r. ⌜ searchSays r ≡ answer W (findFirst 0 span) (now (words .entry)) ⌝ }
 {
     let verdict = checked(span, words.len());
     match verdict {
@@ -45,9 +47,9 @@ pub fn first_zero(words: &[u64], span: Span) -> SearchAnswer
     }
 }
 
-// The largest index of a one, or absent exactly if there is none; refusals 1 to 3.
-pub fn last_one(words: &[u64], span: Span) -> SearchAnswer
-    ensures { λ r. ⌜ searchSays r ≡ answer 64 (findLast 1 span) (now (words .entry)) ⌝ }
+// The largest index of a one, or absent exactly if there is none. Refusals 1 to 3.
+pub fn last_one(words: &[Word], span: Span) -> SearchAnswer
+    ensures { λ r. ⌜ searchSays r ≡ answer W (findLast 1 span) (now (words .entry)) ⌝ }
 {
     let verdict = checked(span, words.len());
     match verdict {
@@ -60,9 +62,9 @@ pub fn last_one(words: &[u64], span: Span) -> SearchAnswer
     }
 }
 
-// The largest index of a zero, or absent exactly if there is none; refusals 1 to 3.
-pub fn last_zero(words: &[u64], span: Span) -> SearchAnswer
-    ensures { λ r. ⌜ searchSays r ≡ answer 64 (findLast 0 span) (now (words .entry)) ⌝ }
+// The largest index of a zero, or absent exactly if there is none. Refusals 1 to 3.
+pub fn last_zero(words: &[Word], span: Span) -> SearchAnswer
+    ensures { λ r. ⌜ searchSays r ≡ answer W (findLast 0 span) (now (words .entry)) ⌝ }
 {
     let verdict = checked(span, words.len());
     match verdict {
@@ -77,12 +79,12 @@ pub fn last_zero(words: &[u64], span: Span) -> SearchAnswer
 
 // Refusals 1 to 3 at this width.
 fn checked(span: Span, lent: usize) -> Verdict
-    ensures { λ r. ⌜ Judges (spanCases 64 lent span) r ⌝ }
+    ensures { λ r. ⌜ Judges (spanCases W lent span) r ⌝ }
 {
     span.check(Width::W64, lent)
 }
 
-// The answer of a search that found place r of len first, or len where there is none.
+// What a first search answers that ended at r of `len` bits; it ended at `len` where there is none.
 fn first_answer(r: usize, len: usize) -> SearchAnswer
     ensures { λ a. ⌜ searchSays a ≡ firstFound len r ⌝ }
 {
@@ -93,7 +95,7 @@ fn first_answer(r: usize, len: usize) -> SearchAnswer
     }
 }
 
-// The answer of a search that found place r - 1 last, or none where r is 0.
+// What a last search answers that ended just past the bit, at r; it ended at 0 where there is none.
 fn last_answer(r: usize) -> SearchAnswer
     ensures { λ a. ⌜ searchSays a ≡ lastFound r ⌝ }
 {

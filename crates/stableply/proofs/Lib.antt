@@ -1,4 +1,3 @@
-pub mod Naming
-pub mod Crossing
 pub mod OnlyOne
-pub mod Declined
+pub mod OnlyOne64
+pub mod OnlyOne8

@@ -1,18 +1,18 @@
-// The exported calls on single bits and fields of rows of bytes.
-use crate::codes::bit_of;
-use crate::codes::number_of;
-use crate::codes::sign_of;
-use crate::codes::significance_of;
-use crate::codes::span_of;
-use crate::leaving::leave_bit;
-use crate::leaving::leave_number;
-use crate::leaving::leave_write;
+// The exported calls on single bits and fields of rows of words of 8 bits.
+use border::bit_of;
+use border::leave_bit;
+use border::leave_number;
+use border::leave_write;
+use border::number_of;
+use border::sign_of;
+use border::significance_of;
+use border::span_of;
 use rules::Verdict;
 use rules::Width;
 ghost use mathlib.Core.Bool.{_||_};
 ghost use Rattle.rules.specs.Fields.{whole};
-ghost use Rattle.rules.specs.Calls.{readBit, writeBit, load, store, storeStrict, answer, after};
-ghost use Rattle.stableply.specs.Border.{spanOf, bitOf, significanceOf, signOf, numberOf, none, behind, Told, Wrote};
+ghost use Rattle.rules.specs.Calls.{readBit, writeBit, load, store, storeStrict, answer};
+ghost use Rattle.border.specs.Border.{spanOf, bitOf, significanceOf, signOf, numberOf, none, behind, Told, Wrote};
 
 // One bit of a span, as 0 or 1.
 #[no_mangle]
@@ -25,7 +25,8 @@ pub extern "C" fn stableply8_read_bit(
     index: usize,
     out: &mut u8,
 ) -> u8
-    ensures { λ r. ⌜ Told (behind (none order) (answer 8 (readBit (spanOf order word head length) index) (now (words .entry)))) (now (out .entry)) r (now (out .exit)) ⌝ }
+    ensures { λ r. ⌜ Told (behind (none order) (answer 8 (readBit (spanOf order word head length) index) (now (words .entry)))) (now (out .entry)) r
+        (now (out .exit)) ⌝ }
 {
     if 1 < order {
         return 255;
@@ -45,7 +46,9 @@ pub extern "C" fn stableply8_write_bit(
     index: usize,
     bit: u8,
 ) -> u8
-    ensures { λ r. ⌜ Wrote (none order || none bit) (answer 8 (writeBit (spanOf order word head length) index (bitOf bit)) (now (words .entry))) (after 8 (writeBit (spanOf order word head length) index (bitOf bit)) (now (words .entry))) (now (words .entry)) r (now (words .exit)) ⌝ }
+    ensures { λ r. ⌜ Wrote 8 (none order || none bit)
+        (writeBit (spanOf order word head length) index (bitOf bit))
+        (now (words .entry)) r (now (words .exit)) ⌝ }
 {
     if 1 < order {
         return 255;
@@ -71,7 +74,10 @@ pub extern "C" fn stableply8_load(
     sign: u8,
     out: &mut u64,
 ) -> u8
-    ensures { λ r. ⌜ Told (behind (none order || (none significance || none sign)) (answer 8 (load (spanOf order word head length) k (significanceOf significance) (signOf sign)) (now (words .entry)))) (now (out .entry)) r (now (out .exit)) ⌝ }
+    ensures { λ r. ⌜ Told
+        (behind (none order || (none significance || none sign))
+        (answer 8 (load (spanOf order word head length) k (significanceOf significance) (signOf sign)) (now (words .entry)))) (now (out .entry)) r
+        (now (out .exit)) ⌝ }
 {
     if 1 < order {
         return 255;
@@ -102,7 +108,9 @@ pub extern "C" fn stableply8_store(
     below: u8,
     value: u64,
 ) -> u8
-    ensures { λ r. ⌜ Wrote (none order || (none significance || (none sign || none below))) (answer 8 (store (spanOf order word head length) k (significanceOf significance) (signOf sign) (whole (numberOf below value))) (now (words .entry))) (after 8 (store (spanOf order word head length) k (significanceOf significance) (signOf sign) (whole (numberOf below value))) (now (words .entry))) (now (words .entry)) r (now (words .exit)) ⌝ }
+    ensures { λ r. ⌜ Wrote 8 (none order || (none significance || (none sign || none below)))
+        (store (spanOf order word head length) k (significanceOf significance) (signOf sign) (whole (numberOf below value)))
+        (now (words .entry)) r (now (words .exit)) ⌝ }
 {
     if 1 < order {
         return 255;
@@ -137,7 +145,9 @@ pub extern "C" fn stableply8_store_strict(
     below: u8,
     value: u64,
 ) -> u8
-    ensures { λ r. ⌜ Wrote (none order || (none significance || (none sign || none below))) (answer 8 (storeStrict (spanOf order word head length) k (significanceOf significance) (signOf sign) (whole (numberOf below value))) (now (words .entry))) (after 8 (storeStrict (spanOf order word head length) k (significanceOf significance) (signOf sign) (whole (numberOf below value))) (now (words .entry))) (now (words .entry)) r (now (words .exit)) ⌝ }
+    ensures { λ r. ⌜ Wrote 8 (none order || (none significance || (none sign || none below)))
+        (storeStrict (spanOf order word head length) k (significanceOf significance) (signOf sign) (whole (numberOf below value)))
+        (now (words .entry)) r (now (words .exit)) ⌝ }
 {
     if 1 < order {
         return 255;
@@ -154,7 +164,7 @@ pub extern "C" fn stableply8_store_strict(
     let span = span_of(order, word, head, length);
     let named = sign_of(sign);
     let number = number_of(below, value);
-    let verdict = pieces::check_store_strict(Width::W8, words.len(), span, k, named, number);
+    let verdict = refusals::check_store_strict(Width::W8, words.len(), span, k, named, number);
     match verdict {
         Verdict::Refused(no) => no.number(),
         Verdict::Fine => stableply8_store(

@@ -1,11 +1,11 @@
-// The exported calls on rows of bytes.
-use crate::codes::is_operation;
-use crate::codes::span_of;
-use crate::leaving::leave_equal;
-use crate::leaving::leave_write;
+// The exported calls on rows of words of 8 bits.
+use border::is_operation;
+use border::leave_equal;
+use border::leave_write;
+use border::span_of;
 ghost use mathlib.Core.Bool.{_||_};
-ghost use Rattle.rules.specs.Calls.{here, there, copyFrom, copyWithin, boolean, equal, answer, after, swapAnswer, swapLeft, swapRight};
-ghost use Rattle.stableply.specs.Border.{spanOf, none, noOperation, behind, Told, Wrote, Swapped};
+ghost use Rattle.rules.specs.Calls.{here, there, copyFrom, copyWithin, boolean, equal, answer};
+ghost use Rattle.border.specs.Border.{spanOf, none, noOperation, behind, Told, Wrote, Swapped};
 
 // Copies a span of another buffer, bit for bit.
 #[no_mangle]
@@ -21,7 +21,9 @@ pub extern "C" fn stableply8_copy_from(
     from_head: usize,
     from_length: usize,
 ) -> u8
-    ensures { λ r. ⌜ Wrote (none order || none «from_order») (answer 8 (copyFrom (spanOf order word head length) (now (source .entry)) (spanOf «from_order» «from_word» «from_head» «from_length»)) (now (words .entry))) (after 8 (copyFrom (spanOf order word head length) (now (source .entry)) (spanOf «from_order» «from_word» «from_head» «from_length»)) (now (words .entry))) (now (words .entry)) r (now (words .exit)) ⌝ }
+    ensures { λ r. ⌜ Wrote 8 (none order || none «from_order»)
+        (copyFrom (spanOf order word head length) (now (source .entry)) (spanOf «from_order» «from_word» «from_head» «from_length»))
+        (now (words .entry)) r (now (words .exit)) ⌝ }
 {
     if 1 < order {
         return 255;
@@ -46,7 +48,9 @@ pub extern "C" fn stableply8_copy_within(
     count: usize,
     destination: usize,
 ) -> u8
-    ensures { λ r. ⌜ Wrote (none order) (answer 8 (copyWithin (spanOf order word head length) start count destination) (now (words .entry))) (after 8 (copyWithin (spanOf order word head length) start count destination) (now (words .entry))) (now (words .entry)) r (now (words .exit)) ⌝ }
+    ensures { λ r. ⌜ Wrote 8 (none order)
+        (copyWithin (spanOf order word head length) start count destination)
+        (now (words .entry)) r (now (words .exit)) ⌝ }
 {
     if 1 < order {
         return 255;
@@ -70,7 +74,9 @@ pub extern "C" fn stableply8_boolean(
     right_length: usize,
     operation: u8,
 ) -> u8
-    ensures { λ r. ⌜ Wrote (none order || (none «right_order» || noOperation operation)) (answer 8 (boolean operation (spanOf order word head length) (now (right .entry)) (spanOf «right_order» «right_word» «right_head» «right_length»)) (now (words .entry))) (after 8 (boolean operation (spanOf order word head length) (now (right .entry)) (spanOf «right_order» «right_word» «right_head» «right_length»)) (now (words .entry))) (now (words .entry)) r (now (words .exit)) ⌝ }
+    ensures { λ r. ⌜ Wrote 8 (none order || (none «right_order» || noOperation operation))
+        (boolean operation (spanOf order word head length) (now (right .entry)) (spanOf «right_order» «right_word» «right_head» «right_length»))
+        (now (words .entry)) r (now (words .exit)) ⌝ }
 {
     if 1 < order {
         return 255;
@@ -101,7 +107,10 @@ pub extern "C" fn stableply8_swap(
     right_head: usize,
     right_length: usize,
 ) -> u8
-    ensures { λ r. ⌜ Swapped (none order || none «right_order») (swapAnswer 8 (now (left .entry)) (spanOf order word head length) (now (right .entry)) (spanOf «right_order» «right_word» «right_head» «right_length»)) (swapLeft 8 (now (left .entry)) (spanOf order word head length) (now (right .entry)) (spanOf «right_order» «right_word» «right_head» «right_length»)) (now (left .entry)) (swapRight 8 (now (left .entry)) (spanOf order word head length) (now (right .entry)) (spanOf «right_order» «right_word» «right_head» «right_length»)) (now (right .entry)) r (now (left .exit)) (now (right .exit)) ⌝ }
+    ensures { λ r. ⌜ Swapped 8 (none order || none «right_order»)
+        (now (left .entry)) (spanOf order word head length)
+        (now (right .entry)) (spanOf «right_order» «right_word» «right_head» «right_length»)
+        r (now (left .exit)) (now (right .exit)) ⌝ }
 {
     if 1 < order {
         return 255;
@@ -129,7 +138,11 @@ pub extern "C" fn stableply8_equal(
     right_length: usize,
     out: &mut u8,
 ) -> u8
-    ensures { λ r. ⌜ Told (behind (none order || none «right_order») (answer 8 (equal here (spanOf order word head length) (there (now (right .entry))) (spanOf «right_order» «right_word» «right_head» «right_length»)) (now (left .entry)))) (now (out .entry)) r (now (out .exit)) ⌝ }
+    ensures { λ r. ⌜ Told
+        (behind (none order || none «right_order»)
+        (answer 8
+        (equal here (spanOf order word head length) (there (now (right .entry)))
+        (spanOf «right_order» «right_word» «right_head» «right_length»)) (now (left .entry)))) (now (out .entry)) r (now (out .exit)) ⌝ }
 {
     if 1 < order {
         return 255;

@@ -1,8 +1,8 @@
-// The exported searches of rows of bytes.
-use crate::codes::span_of;
-use crate::leaving::leave_found;
+// The exported searches of rows of words of 8 bits.
+use border::leave_found;
+use border::span_of;
 ghost use Rattle.rules.specs.Calls.{findFirst, findLast, answer};
-ghost use Rattle.stableply.specs.Border.{spanOf, none, behind, Found};
+ghost use Rattle.border.specs.Border.{spanOf, none, behind, Found};
 
 // The smallest index of a one, counted from the span's start, or absent.
 #[no_mangle]
@@ -15,7 +15,8 @@ pub extern "C" fn stableply8_first_one(
     found: &mut u8,
     at: &mut usize,
 ) -> u8
-    ensures { λ r. ⌜ Found (behind (none order) (answer 8 (findFirst 1 (spanOf order word head length)) (now (words .entry)))) (now (found .entry)) (now (at .entry)) r (now (found .exit)) (now (at .exit)) ⌝ }
+    ensures { λ r. ⌜ Found (behind (none order) (answer 8 (findFirst 1 (spanOf order word head length)) (now (words .entry)))) (now (found .entry))
+        (now (at .entry)) r (now (found .exit)) (now (at .exit)) ⌝ }
 {
     if 1 < order {
         return 255;
@@ -35,7 +36,8 @@ pub extern "C" fn stableply8_last_one(
     found: &mut u8,
     at: &mut usize,
 ) -> u8
-    ensures { λ r. ⌜ Found (behind (none order) (answer 8 (findLast 1 (spanOf order word head length)) (now (words .entry)))) (now (found .entry)) (now (at .entry)) r (now (found .exit)) (now (at .exit)) ⌝ }
+    ensures { λ r. ⌜ Found (behind (none order) (answer 8 (findLast 1 (spanOf order word head length)) (now (words .entry)))) (now (found .entry))
+        (now (at .entry)) r (now (found .exit)) (now (at .exit)) ⌝ }
 {
     if 1 < order {
         return 255;
@@ -55,7 +57,8 @@ pub extern "C" fn stableply8_first_zero(
     found: &mut u8,
     at: &mut usize,
 ) -> u8
-    ensures { λ r. ⌜ Found (behind (none order) (answer 8 (findFirst 0 (spanOf order word head length)) (now (words .entry)))) (now (found .entry)) (now (at .entry)) r (now (found .exit)) (now (at .exit)) ⌝ }
+    ensures { λ r. ⌜ Found (behind (none order) (answer 8 (findFirst 0 (spanOf order word head length)) (now (words .entry)))) (now (found .entry))
+        (now (at .entry)) r (now (found .exit)) (now (at .exit)) ⌝ }
 {
     if 1 < order {
         return 255;
@@ -75,7 +78,8 @@ pub extern "C" fn stableply8_last_zero(
     found: &mut u8,
     at: &mut usize,
 ) -> u8
-    ensures { λ r. ⌜ Found (behind (none order) (answer 8 (findLast 0 (spanOf order word head length)) (now (words .entry)))) (now (found .entry)) (now (at .entry)) r (now (found .exit)) (now (at .exit)) ⌝ }
+    ensures { λ r. ⌜ Found (behind (none order) (answer 8 (findLast 0 (spanOf order word head length)) (now (words .entry)))) (now (found .entry))
+        (now (at .entry)) r (now (found .exit)) (now (at .exit)) ⌝ }
 {
     if 1 < order {
         return 255;

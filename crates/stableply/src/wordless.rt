@@ -1,17 +1,17 @@
 // The exported calls without lent words.
-use crate::codes::order_of;
-use crate::codes::span_of;
-use crate::leaving::leave_mask;
-use crate::leaving::leave_position;
-use crate::leaving::leave_rest;
-use crate::leaving::leave_selector;
+use border::leave_mask;
+use border::leave_position;
+use border::leave_rest;
+use border::leave_selector;
+use border::order_of;
+use border::span_of;
 use rules::End;
 use rules::Index;
 use rules::Width;
 ghost use mathlib.Core.Bool.{_||_};
 ghost use Rattle.rules.specs.Bits.{bits};
 ghost use Rattle.rules.specs.Calls.{positionAnswer, selectorAnswer, maskAnswer, splitAnswer};
-ghost use Rattle.stableply.specs.Border.{orderOf, spanOf, none, noWidth, behind, Told, Rest};
+ghost use Rattle.border.specs.Border.{orderOf, spanOf, none, noWidth, behind, Told, Rest};
 
 fn position(width: Width, order: u8, index: usize, out: &mut u64) -> u8
     ensures { λ r. ⌜ Told (behind (none order) (positionAnswer (bits width) (orderOf order) index)) (now (out .entry)) r (now (out .exit)) ⌝ }
@@ -20,7 +20,7 @@ fn position(width: Width, order: u8, index: usize, out: &mut u64) -> u8
         return 255;
     }
     let named = order_of(order);
-    leave_position(named.at(width, Index(index)), out)
+    leave_position(wordless::position(width, named, Index(index)), out)
 }
 
 // The real position of an index in a word.
@@ -44,7 +44,7 @@ fn selector(width: Width, order: u8, index: usize, out: &mut u64) -> u8
         return 255;
     }
     let named = order_of(order);
-    leave_selector(named.select(width, Index(index)), out)
+    leave_selector(wordless::selector(width, named, Index(index)), out)
 }
 
 // The selector of an index in a word: 2 to its position.
@@ -68,7 +68,7 @@ fn mask(width: Width, order: u8, from: usize, upto: usize, out: &mut u64) -> u8
         return 255;
     }
     let named = order_of(order);
-    leave_mask(named.mask(width, Index(from), End(upto)), out)
+    leave_mask(wordless::mask(width, named, Index(from), End(upto)), out)
 }
 
 // The mask of the indexes from `from` up to but without `upto`.
@@ -103,7 +103,8 @@ fn split(
     rest_head: &mut usize,
     rest_length: &mut usize,
 ) -> u8
-    ensures { λ r. ⌜ Rest (behind (none order) (splitAnswer (bits width) lent (spanOf order word head length) place)) (now («rest_word» .entry)) (now («rest_head» .entry)) (now («rest_length» .entry)) r (now («rest_word» .exit)) (now («rest_head» .exit)) (now («rest_length» .exit)) ⌝ }
+    ensures { λ r. ⌜ Rest (behind (none order) (splitAnswer (bits width) lent (spanOf order word head length) place)) (now («rest_word» .entry))
+        (now («rest_head» .entry)) (now («rest_length» .entry)) r (now («rest_word» .exit)) (now («rest_head» .exit)) (now («rest_length» .exit)) ⌝ }
 {
     if 1 < order {
         return 255;
@@ -131,7 +132,9 @@ pub extern "C" fn stableply_split(
     rest_head: &mut usize,
     rest_length: &mut usize,
 ) -> u8
-    ensures { λ r. ⌜ Rest (behind (noWidth width || none order) (splitAnswer width lent (spanOf order word head length) place)) (now («rest_word» .entry)) (now («rest_head» .entry)) (now («rest_length» .entry)) r (now («rest_word» .exit)) (now («rest_head» .exit)) (now («rest_length» .exit)) ⌝ }
+    ensures { λ r. ⌜ Rest (behind (noWidth width || none order) (splitAnswer width lent (spanOf order word head length) place))
+        (now («rest_word» .entry)) (now («rest_head» .entry)) (now («rest_length» .entry)) r (now («rest_word» .exit)) (now («rest_head» .exit))
+        (now («rest_length» .exit)) ⌝ }
 {
     if width == 8 {
         return split(

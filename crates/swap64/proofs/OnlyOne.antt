@@ -1,7 +1,7 @@
 -- No second answer and no second memory, of either side, keeps the promise of `swap`, as the source states it. Assumes nothing.
 use mathlib.Core.Path.{_≡_, sym, _∙_}
 use denote.Ref.{now}
-use Rattle.rules.proofs.OneAnswer.{one-write}
+use Rattle.rules.proofs.refusals.OneAnswer.{one-write}
 use Rattle.swap64.proofs.swap.Reads as swap
 
 swap-only : (κs : _) (a : _) (r r′ : _) (x x′ : _) → swap.Post κs a r x → swap.Post κs a r′ x′

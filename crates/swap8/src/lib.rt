@@ -1,80 +1,122 @@
-// Swap of two rows in two buffers of words of 8 bits: at equal heads in place, else block by block, where one side waits in scratch words
-// while the other is copied.
-use checks::check_copy;
+// Swap of two rows in two buffers of words of 8 bits. Rows at the same head are exchanged in place, word by word. Rows at different heads
+// go block by block: the left block waits in scratch words while the right one is copied over it.
 use copy8::copy_row;
+use refusals::check_copy;
 use rules::Order;
 use rules::Span;
 use rules::Verdict;
 use rules::Width;
 use rules::WriteAnswer;
+use word8::W;
+use word8::Word;
 use word8::lead;
 use word8::least;
 use word8::put;
 ghost use mathlib.Core.Path.{_≡_};
 ghost use Prim.Native.Nat.{ℕ, _+_, _*_, _%_, _≤_, _<_};
 ghost use lib.ListN.{length, getD};
+ghost use Rattle.word8.specs.Width.{W};
 ghost use Rattle.rules.specs.declared.Order.{Order};
 ghost use Rattle.rules.specs.Positions.{row, spliced};
 ghost use Rattle.rules.specs.Answers.{writeSays, Swaps};
 
-// n bits, exchanged.
-fn block(
-    left: &mut [u8],
-    order: Order,
-    d: usize,
-    right: &mut [u8],
-    s: usize,
-    n: usize,
-    scratch: &mut [u8],
-)
-    requires { ⌜ (d + n ≤ length (now left) * 8) × (s + n ≤ length (now right) * 8) × (d % 8 + n ≤ length (now scratch) * 8) × (length (now left) ≤ 65536) × (length (now right) ≤ 65536) × (length (now scratch) ≤ 65536) ⌝ }
-    ensures { λ _. ⌜ (now (left .exit) ≡ spliced 8 order (now (left .entry)) d n (λ i. row 8 order (now (right .entry)) (s + i))) × (now (right .exit) ≡ spliced 8 order (now (right .entry)) s n (λ i. row 8 order (now (left .entry)) (d + i))) ⌝ }
-{
-    let g = d % 8;
-    copy_row(scratch, order, g, left, d, n);
-    copy_row(left, order, d, right, s, n);
-    copy_row(right, order, s, scratch, g, n);
-}
+// How many scratch words there are, for a long row and for a short one; and how many bits they hold wherever in a word the first bit lies.
+const SCRATCH: usize = 1024;
 
-// len bits, a block at a time.
-fn blocks(
-    left: &mut [u8],
-    order: Order,
-    d: usize,
-    right: &mut [u8],
-    s: usize,
-    len: usize,
-    scratch: &mut [u8],
-)
-    requires { ⌜ (d + len ≤ length (now left) * 8) × (s + len ≤ length (now right) * 8) × (length (now left) ≤ 65536) × (length (now right) ≤ 65536) × (length (now scratch) ≡ 1024) ⌝ }
-    ensures { λ _. ⌜ (now (left .exit) ≡ spliced 8 order (now (left .entry)) d len (λ i. row 8 order (now (right .entry)) (s + i))) × (now (right .exit) ≡ spliced 8 order (now (right .entry)) s len (λ i. row 8 order (now (left .entry)) (d + i))) ⌝ }
+const FEW: usize = 16;
+
+const SCRATCH_BITS: usize = (SCRATCH - 1) * W;
+
+const FEW_BITS: usize = (FEW - 1) * W;
+
+// What the scratch words hold at first.
+const ZERO: Word = 0;
+
+// Each span gets the other's old bits; the lengths are equal. Refusals 1 to 3 of the left, 1 to 3 of the right, 6, 7.
+pub fn swap(left: &mut [Word], left_span: Span, right: &mut [Word], right_span: Span) -> WriteAnswer
+    ensures { λ r. ⌜ Swaps W (now (left .entry)) «left_span» (now (right .entry)) «right_span» (writeSays r) (now (left .exit)) (now (right .exit)) ⌝ }
 {
-    let mut i: usize = 0;
-    while i < len {
-        let n = least(len - i, 8184);
-        block(left, order, d + i, right, s + i, n, scratch);
-        i = i + n;
+    let verdict = check_copy(Width::W8, left.len(), left_span, right.len(), right_span);
+    match verdict {
+        Verdict::Refused(no) => WriteAnswer::Refused(no),
+        Verdict::Fine => {
+            let order = left_span.order;
+            let d = left_span.start(W);
+            let s = right_span.start(W);
+            swap_row(left, order, d, right, s, left_span.len);
+            WriteAnswer::Done
+        }
     }
 }
 
-// len bits at differing heads: a few in one block, more in many.
-fn by_scratch(left: &mut [u8], order: Order, d: usize, right: &mut [u8], s: usize, len: usize)
-    requires { ⌜ (d + len ≤ length (now left) * 8) × (s + len ≤ length (now right) * 8) × (length (now left) ≤ 65536) × (length (now right) ≤ 65536) ⌝ }
-    ensures { λ _. ⌜ (now (left .exit) ≡ spliced 8 order (now (left .entry)) d len (λ i. row 8 order (now (right .entry)) (s + i))) × (now (right .exit) ≡ spliced 8 order (now (right .entry)) s len (λ i. row 8 order (now (left .entry)) (d + i))) ⌝ }
+// `len` bits of the left row from place d on and of the right row from place s on change sides.
+fn swap_row(left: &mut [Word], order: Order, d: usize, right: &mut [Word], s: usize, len: usize)
+    requires { ⌜ (d + len ≤ length (now left) * W) × (s + len ≤ length (now right) * W) × (length (now left) ≤ 65536) × (length (now right) ≤ 65536) ⌝ }
+    ensures { λ _. ⌜ (now (left .exit) ≡ spliced W order (now (left .entry)) d len (λ i. row W order (now (right .entry)) (s + i)))
+        × (now (right .exit) ≡ spliced W order (now (right .entry)) s len (λ i. row W order (now (left .entry)) (d + i))) ⌝ }
 {
-    if len <= 120 {
-        let mut few = [0u8; 16];
-        block(left, order, d, right, s, len, &mut few);
+    if d % W == s % W {
+        in_place(left, order, d, right, s, len);
         return;
     }
-    let mut scratch = [0u8; 1024];
-    blocks(left, order, d, right, s, len, &mut scratch);
+    by_scratch(left, order, d, right, s, len);
 }
 
-// As many words of either side, exchanged.
-fn swap_words(left: &mut [u8], right: &mut [u8])
+// The same where both begin at the same index of a word: a first piece, whole words, a last piece.
+fn in_place(left: &mut [Word], order: Order, d: usize, right: &mut [Word], s: usize, len: usize)
+    requires { ⌜ (d % W ≡ s % W) × (d + len ≤ length (now left) * W) × (s + len ≤ length (now right) * W) × (length (now left) ≤ 65536)
+        × (length (now right) ≤ 65536) ⌝ }
+    ensures { λ _. ⌜ (now (left .exit) ≡ spliced W order (now (left .entry)) d len (λ i. row W order (now (right .entry)) (s + i)))
+        × (now (right .exit) ≡ spliced W order (now (right .entry)) s len (λ i. row W order (now (left .entry)) (d + i))) ⌝ }
+{
+    let first = lead(d, len);
+    piece(left, order, d, right, s, first);
+    let k = (len - first) / W;
+    whole(left, d + first, right, s + first, k);
+    let most = first + k * W;
+    piece(left, order, d + most, right, s + most, len - most);
+}
+
+// n bits that lie within one word of either row change sides.
+fn piece(left: &mut [Word], order: Order, d: usize, right: &mut [Word], s: usize, n: usize)
+    requires { ⌜ (d % W ≡ s % W) × (d % W + n ≤ W) × (d + n ≤ length (now left) * W) × (s + n ≤ length (now right) * W) × (length (now left) ≤ 65536)
+        × (length (now right) ≤ 65536) ⌝ }
+    ensures { λ _. ⌜ (now (left .exit) ≡ spliced W order (now (left .entry)) d n (λ i. row W order (now (right .entry)) (s + i)))
+        × (now (right .exit) ≡ spliced W order (now (right .entry)) s n (λ i. row W order (now (left .entry)) (d + i))) ⌝ }
+{
+    if n == 0 {
+        return;
+    }
+    let a = d / W;
+    let b = s / W;
+    let x = left[a];
+    let y = right[b];
+    put(left, order, d, n, y);
+    put(right, order, s, n, x);
+}
+
+// k whole words of either row change sides. They are lent on as parts, so that the loop below begins at word 0.
+fn whole(left: &mut [Word], d: usize, right: &mut [Word], s: usize, k: usize)
+    requires { ⌜ (1 ≤ k → d % W ≡ 0) × (d % W ≡ s % W) × (d + k * W ≤ length (now left) * W) × (s + k * W ≤ length (now right) * W)
+        × (length (now left) ≤ 65536) × (length (now right) ≤ 65536) ⌝ }
+    ensures { λ _. ⌜ ((o : Order) → (now (left .exit) ≡ spliced W o (now (left .entry)) d (k * W) (λ i. row W o (now (right .entry)) (s + i)))
+        × (now (right .exit) ≡ spliced W o (now (right .entry)) s (k * W) (λ i. row W o (now (left .entry)) (d + i)))) ⌝ }
+{
+    if k == 0 {
+        return;
+    }
+    let a = d / W;
+    let e = a + k;
+    let b = s / W;
+    let f = b + k;
+    swap_words(&mut left[a..e], &mut right[b..f]);
+}
+
+// As many words of the one side as of the other change sides.
+fn swap_words(left: &mut [Word], right: &mut [Word])
     requires { ⌜ length (now left) ≡ length (now right) ⌝ }
-    ensures { λ _. ⌜ ((k : ℕ) → k < length (now (left .entry)) → getD (now (left .exit)) k 0 ≡ getD (now (right .entry)) k 0) × ((k : ℕ) → k < length (now (left .entry)) → getD (now (right .exit)) k 0 ≡ getD (now (left .entry)) k 0) ⌝ }
+    ensures { λ _. ⌜ ((k : ℕ) → k < length (now (left .entry)) → getD (now (left .exit)) k 0 ≡ getD (now (right .entry)) k 0)
+        × ((k : ℕ) → k < length (now (left .entry)) → getD (now (right .exit)) k 0 ≡ getD (now (left .entry)) k 0) ⌝ }
 {
     let mut i: usize = 0;
     while i < left.len() {
@@ -85,75 +127,63 @@ fn swap_words(left: &mut [u8], right: &mut [u8])
     }
 }
 
-// k whole words of either side, lent on as parts.
-fn whole(left: &mut [u8], d: usize, right: &mut [u8], s: usize, k: usize)
-    requires { ⌜ (1 ≤ k → d % 8 ≡ 0) × (d % 8 ≡ s % 8) × (d + k * 8 ≤ length (now left) * 8) × (s + k * 8 ≤ length (now right) * 8) × (length (now left) ≤ 65536) × (length (now right) ≤ 65536) ⌝ }
-    ensures { λ _. ⌜ ((o : Order) → (now (left .exit) ≡ spliced 8 o (now (left .entry)) d (k * 8) (λ i. row 8 o (now (right .entry)) (s + i))) × (now (right .exit) ≡ spliced 8 o (now (right .entry)) s (k * 8) (λ i. row 8 o (now (left .entry)) (d + i)))) ⌝ }
+// `len` bits at different heads change sides: through a few scratch words where that is enough, so that a short row does not wait for many
+// to be set.
+fn by_scratch(left: &mut [Word], order: Order, d: usize, right: &mut [Word], s: usize, len: usize)
+    requires { ⌜ (d + len ≤ length (now left) * W) × (s + len ≤ length (now right) * W) × (length (now left) ≤ 65536) × (length (now right) ≤ 65536) ⌝ }
+    ensures { λ _. ⌜ (now (left .exit) ≡ spliced W order (now (left .entry)) d len (λ i. row W order (now (right .entry)) (s + i)))
+        × (now (right .exit) ≡ spliced W order (now (right .entry)) s len (λ i. row W order (now (left .entry)) (d + i))) ⌝ }
 {
-    if k == 0 {
+    if len <= FEW_BITS {
+        let mut few = [ZERO; FEW];
+        block(left, order, d, right, s, len, &mut few);
         return;
     }
-    let a = d / 8;
-    let e = a + k;
-    let b = s / 8;
-    let f = b + k;
-    swap_words(&mut left[a..e], &mut right[b..f]);
+    let mut scratch = [ZERO; SCRATCH];
+    blocks(left, order, d, right, s, len, &mut scratch, SCRATCH_BITS);
 }
 
-// n bits within one word of either side.
-fn piece(left: &mut [u8], order: Order, d: usize, right: &mut [u8], s: usize, n: usize)
-    requires { ⌜ (d % 8 ≡ s % 8) × (d % 8 + n ≤ 8) × (d + n ≤ length (now left) * 8) × (s + n ≤ length (now right) * 8) × (length (now left) ≤ 65536) × (length (now right) ≤ 65536) ⌝ }
-    ensures { λ _. ⌜ (now (left .exit) ≡ spliced 8 order (now (left .entry)) d n (λ i. row 8 order (now (right .entry)) (s + i))) × (now (right .exit) ≡ spliced 8 order (now (right .entry)) s n (λ i. row 8 order (now (left .entry)) (d + i))) ⌝ }
+// `len` bits change sides, at most `most` of them at a time.
+fn blocks(
+    left: &mut [Word],
+    order: Order,
+    d: usize,
+    right: &mut [Word],
+    s: usize,
+    len: usize,
+    scratch: &mut [Word],
+    most: usize,
+)
+    requires { ⌜ (d + len ≤ length (now left) * W) × (s + len ≤ length (now right) * W) × (length (now left) ≤ 65536) × (length (now right) ≤ 65536)
+        × (1 ≤ most) × (most + W ≤ length (now scratch) * W) × (length (now scratch) ≤ 65536) ⌝ }
+    ensures { λ _. ⌜ (now (left .exit) ≡ spliced W order (now (left .entry)) d len (λ i. row W order (now (right .entry)) (s + i)))
+        × (now (right .exit) ≡ spliced W order (now (right .entry)) s len (λ i. row W order (now (left .entry)) (d + i))) ⌝ }
 {
-    if n == 0 {
-        return;
+    let mut i: usize = 0;
+    while i < len {
+        let n = least(len - i, most);
+        block(left, order, d + i, right, s + i, n, scratch);
+        i = i + n;
     }
-    let a = d / 8;
-    let b = s / 8;
-    let x = left[a];
-    let y = right[b];
-    put(left, order, d, n, y);
-    put(right, order, s, n, x);
 }
 
-// len bits at equal heads, in place.
-fn in_place(left: &mut [u8], order: Order, d: usize, right: &mut [u8], s: usize, len: usize)
-    requires { ⌜ (d % 8 ≡ s % 8) × (d + len ≤ length (now left) * 8) × (s + len ≤ length (now right) * 8) × (length (now left) ≤ 65536) × (length (now right) ≤ 65536) ⌝ }
-    ensures { λ _. ⌜ (now (left .exit) ≡ spliced 8 order (now (left .entry)) d len (λ i. row 8 order (now (right .entry)) (s + i))) × (now (right .exit) ≡ spliced 8 order (now (right .entry)) s len (λ i. row 8 order (now (left .entry)) (d + i))) ⌝ }
+// n bits change sides through the scratch words.
+fn block(
+    left: &mut [Word],
+    order: Order,
+    d: usize,
+    right: &mut [Word],
+    s: usize,
+    n: usize,
+    scratch: &mut [Word],
+)
+    requires { ⌜ (d + n ≤ length (now left) * W) × (s + n ≤ length (now right) * W) × (d % W + n ≤ length (now scratch) * W)
+        × (length (now left) ≤ 65536) × (length (now right) ≤ 65536) × (length (now scratch) ≤ 65536) ⌝ }
+    ensures { λ _. ⌜ (now (left .exit) ≡ spliced W order (now (left .entry)) d n (λ i. row W order (now (right .entry)) (s + i)))
+        × (now (right .exit) ≡ spliced W order (now (right .entry)) s n (λ i. row W order (now (left .entry)) (d + i))) ⌝ }
 {
-    let first = lead(d, len);
-    piece(left, order, d, right, s, first);
-    let k = (len - first) / 8;
-    whole(left, d + first, right, s + first, k);
-    let most = first + k * 8;
-    piece(left, order, d + most, right, s + most, len - most);
-}
-
-// len bits.
-fn swap_row(left: &mut [u8], order: Order, d: usize, right: &mut [u8], s: usize, len: usize)
-    requires { ⌜ (d + len ≤ length (now left) * 8) × (s + len ≤ length (now right) * 8) × (length (now left) ≤ 65536) × (length (now right) ≤ 65536) ⌝ }
-    ensures { λ _. ⌜ (now (left .exit) ≡ spliced 8 order (now (left .entry)) d len (λ i. row 8 order (now (right .entry)) (s + i))) × (now (right .exit) ≡ spliced 8 order (now (right .entry)) s len (λ i. row 8 order (now (left .entry)) (d + i))) ⌝ }
-{
-    if d % 8 == s % 8 {
-        in_place(left, order, d, right, s, len);
-        return;
-    }
-    by_scratch(left, order, d, right, s, len);
-}
-
-// Each side gets the other's old bits, lengths equal: 1 to 3 of the left, 1 to 3 of the right, 6, 7.
-pub fn swap(left: &mut [u8], left_span: Span, right: &mut [u8], right_span: Span) -> WriteAnswer
-    ensures { λ r. ⌜ Swaps 8 (now (left .entry)) «left_span» (now (right .entry)) «right_span» (writeSays r) (now (left .exit)) (now (right .exit)) ⌝ }
-{
-    let verdict = check_copy(Width::W8, left.len(), left_span, right.len(), right_span);
-    match verdict {
-        Verdict::Refused(no) => WriteAnswer::Refused(no),
-        Verdict::Fine => {
-            let order = left_span.order;
-            let d = left_span.word * 8 + left_span.head.0;
-            let s = right_span.word * 8 + right_span.head.0;
-            swap_row(left, order, d, right, s, left_span.len);
-            WriteAnswer::Done
-        }
-    }
+    let g = d % W;
+    copy_row(scratch, order, g, left, d, n);
+    copy_row(left, order, d, right, s, n);
+    copy_row(right, order, s, scratch, g, n);
 }

@@ -1,12 +1,14 @@
-// Copy inside one buffer of words of 8 bits, in place: a piece, whole words, a piece; downward exactly if the source range contains the
-// destination.
-use checks::check_copy_within;
+// Copy within one buffer of words of 8 bits, in place and without scratch words: a piece, whole words, a piece. Downward, the last bits
+// first, exactly if the source range contains the destination; else upward.
+use refusals::check_copy_within;
 use rules::Index;
 use rules::Order;
 use rules::Span;
 use rules::Verdict;
 use rules::Width;
 use rules::WriteAnswer;
+use word8::W;
+use word8::Word;
 use word8::fetch;
 use word8::joined;
 use word8::lead;
@@ -15,132 +17,88 @@ ghost use mathlib.Core.Path.{_≡_};
 ghost use mathlib.Core.Logic.{_⊎_};
 ghost use Prim.Native.Nat.{_+_, _*_, _%_, _≤_, _<_};
 ghost use lib.ListN.{length};
+ghost use Rattle.word8.specs.Width.{W};
 ghost use Rattle.rules.specs.declared.Order.{Order};
 ghost use Rattle.rules.specs.Rows.{moved};
 ghost use Rattle.rules.specs.Calls.{copyWithin, answer, after};
 ghost use Rattle.rules.specs.Answers.{writeSays, Gives};
-ghost use Rattle.rules.proofs.Row.{Words};
+ghost use Rattle.rules.proofs.rows.Row.{Words};
 
-// The first piece: n bits within one word of the destination, all read before one is written.
-fn first_piece(words: &mut [u8], order: Order, from: usize, to: usize, n: usize)
-    requires { ⌜ (to % 8 + n ≤ 8) × (from + n ≤ length (now words) * 8) × (to + n ≤ length (now words) * 8) ⌝ }
-    ensures { λ _. ⌜ now (words .exit) ≡ moved 8 order (now (words .entry)) from to n ⌝ }
+// Bit destination + i of the span becomes the old bit start + i, for all i below count, as if all were read first. Refusals 1 to 3, 10.
+pub fn copy_within(
+    words: &mut [Word],
+    span: Span,
+    start: usize,
+    count: usize,
+    destination: usize,
+) -> WriteAnswer
+    ensures { λ r. ⌜ Gives W (copyWithin span start count destination) (now (words .entry)) (writeSays r) (now (words .exit)) ⌝ }
 {
-    if n == 0 {
-        return;
-    }
-    let v = fetch(words, order, from, Index(to % 8), n);
-    put(words, order, to, n, v);
-}
-
-// The last piece: the same from a word's start on.
-fn last_piece(words: &mut [u8], order: Order, from: usize, to: usize, n: usize)
-    requires { ⌜ (1 ≤ n → to % 8 ≡ 0) × (n ≤ 8) × (from + n ≤ length (now words) * 8) × (to + n ≤ length (now words) * 8) × (length (now words) ≤ 65536) ⌝ }
-    ensures { λ _. ⌜ now (words .exit) ≡ moved 8 order (now (words .entry)) from to n ⌝ }
-{
-    if n == 0 {
-        return;
-    }
-    let at = to / 8 * 8;
-    let v = fetch(words, order, from, Index(at % 8), n);
-    put(words, order, at, n, v);
-}
-
-// k words from word b on, the first one first, become those from word a on.
-fn plain_up(words: &mut [u8], b: usize, a: usize, k: usize)
-    requires { ⌜ (b + k ≤ length (now words)) × (a + k ≤ length (now words)) × ((a ≤ b) ⊎ (b + k ≤ a)) × (length (now words) ≤ 65536) ⌝ }
-    ensures { λ _. ⌜ ((o : Order) → Words 8 (now (words .entry)) → now (words .exit) ≡ moved 8 o (now (words .entry)) (b * 8 + 0) (a * 8) (k * 8)) ⌝ }
-{
-    let mut i: usize = 0;
-    while i < k {
-        words[a + i] = words[b + i];
-        i = i + 1;
+    let verdict = check_copy_within(Width::W8, words.len(), span, start, count, destination);
+    match verdict {
+        Verdict::Refused(no) => WriteAnswer::Refused(no),
+        Verdict::Fine => {
+            let order = span.order;
+            let base = span.start(W);
+            move_row(words, order, base + start, base + destination, count);
+            WriteAnswer::Done
+        }
     }
 }
 
-// The same with the words at a head of word b.
-fn joined_up(words: &mut [u8], order: Order, head: Index, b: usize, a: usize, k: usize)
-    requires { ⌜ (1 ≤ head .0) × (head .0 < 8) × (b + k + 1 ≤ length (now words)) × (a + k ≤ length (now words)) × ((a ≤ b) ⊎ (b + k + 1 ≤ a)) × (length (now words) ≤ 65536) ⌝ }
-    ensures { λ _. ⌜ now (words .exit) ≡ moved 8 order (now (words .entry)) (b * 8 + head .0) (a * 8) (k * 8) ⌝ }
+// n bits of the row from place `from` on replace those from place `to` on, in the direction in which none is overwritten before it is read.
+fn move_row(words: &mut [Word], order: Order, from: usize, to: usize, n: usize)
+    requires { ⌜ (from + n ≤ length (now words) * W) × (to + n ≤ length (now words) * W) × (length (now words) ≤ 65536) ⌝ }
+    ensures { λ _. ⌜ now (words .exit) ≡ moved W order (now (words .entry)) from to n ⌝ }
 {
-    let mut i: usize = 0;
-    while i < k {
-        words[a + i] = joined(order, head, words[b + i], words[b + i + 1]);
-        i = i + 1;
+    if from <= to {
+        if to < from + n {
+            move_down(words, order, from, to, n);
+            return;
+        }
     }
+    move_up(words, order, from, to, n);
 }
 
-// k words from word b on, the last one first, become those from word a on.
-fn plain_down(words: &mut [u8], b: usize, a: usize, k: usize)
-    requires { ⌜ (b + k ≤ length (now words)) × (a + k ≤ length (now words)) × (b ≤ a) × (length (now words) ≤ 65536) ⌝ }
-    ensures { λ _. ⌜ ((o : Order) → Words 8 (now (words .entry)) → now (words .exit) ≡ moved 8 o (now (words .entry)) (b * 8 + 0) (a * 8) (k * 8)) ⌝ }
+// The last bits first: right where the destination is at the source's start or past it.
+fn move_down(words: &mut [Word], order: Order, from: usize, to: usize, n: usize)
+    requires { ⌜ (from + n ≤ length (now words) * W) × (to + n ≤ length (now words) * W) × (from ≤ to) × (length (now words) ≤ 65536) ⌝ }
+    ensures { λ _. ⌜ now (words .exit) ≡ moved W order (now (words .entry)) from to n ⌝ }
 {
-    let mut i: usize = k;
-    while 0 < i {
-        i = i - 1;
-        words[a + i] = words[b + i];
-    }
+    let first = lead(to, n);
+    let k = (n - first) / W;
+    let most = first + k * W;
+    last_piece(words, order, from + most, to + most, n - most);
+    whole_down(words, order, from + first, to + first, k);
+    first_piece(words, order, from, to, first);
 }
 
-// The same with the words at a head of word b.
-fn joined_down(words: &mut [u8], order: Order, head: Index, b: usize, a: usize, k: usize)
-    requires { ⌜ (1 ≤ head .0) × (head .0 < 8) × (b + k + 1 ≤ length (now words)) × (a + k ≤ length (now words)) × (b + 1 ≤ a) × (length (now words) ≤ 65536) ⌝ }
-    ensures { λ _. ⌜ now (words .exit) ≡ moved 8 order (now (words .entry)) (b * 8 + head .0) (a * 8) (k * 8) ⌝ }
+// The first bits first: right where the source range does not contain the destination.
+fn move_up(words: &mut [Word], order: Order, from: usize, to: usize, n: usize)
+    requires { ⌜ (from + n ≤ length (now words) * W) × (to + n ≤ length (now words) * W) × ((to ≤ from) ⊎ (from + n ≤ to)) × (length (now words) ≤ 65536) ⌝ }
+    ensures { λ _. ⌜ now (words .exit) ≡ moved W order (now (words .entry)) from to n ⌝ }
 {
-    let mut i: usize = k;
-    while 0 < i {
-        i = i - 1;
-        words[a + i] = joined(order, head, words[b + i], words[b + i + 1]);
-    }
+    let first = lead(to, n);
+    first_piece(words, order, from, to, first);
+    let k = (n - first) / W;
+    whole_up(words, order, from + first, to + first, k);
+    let most = first + k * W;
+    last_piece(words, order, from + most, to + most, n - most);
 }
 
-// The same where word a is the one after word b. The loop speaks of word b alone and counts last: the compiler then sees which words
-// overlap, and makes a vector loop of it.
-fn joined_next(words: &mut [u8], order: Order, head: Index, b: usize, k: usize)
-    requires { ⌜ (1 ≤ head .0) × (head .0 < 8) × (b + 1 + k ≤ length (now words)) × (length (now words) ≤ 65536) ⌝ }
-    ensures { λ _. ⌜ now (words .exit) ≡ moved 8 order (now (words .entry)) (b * 8 + head .0) ((b + 1) * 8) (k * 8) ⌝ }
-{
-    let mut i: usize = k;
-    while 0 < i {
-        let at = b + i;
-        words[at] = joined(order, head, words[at - 1], words[at]);
-        i = i - 1;
-    }
-}
-
-// k whole words of the destination, upward. Where word b is word a, the compiler is shown so: its loop over both is then a vector loop.
-fn whole_up(words: &mut [u8], order: Order, from: usize, to: usize, k: usize)
-    requires { ⌜ (1 ≤ k → to % 8 ≡ 0) × (from + k * 8 ≤ length (now words) * 8) × (to + k * 8 ≤ length (now words) * 8) × ((to ≤ from) ⊎ (from + k * 8 ≤ to)) × (length (now words) ≤ 65536) ⌝ }
-    ensures { λ _. ⌜ now (words .exit) ≡ moved 8 order (now (words .entry)) from to (k * 8) ⌝ }
+// k whole words of the destination, the last one first. Where a destination word is the one after its source word, a loop that says so: the
+// compiler then makes vector code of it.
+fn whole_down(words: &mut [Word], order: Order, from: usize, to: usize, k: usize)
+    requires { ⌜ (1 ≤ k → to % W ≡ 0) × (from + k * W ≤ length (now words) * W) × (to + k * W ≤ length (now words) * W) × (from ≤ to)
+        × (length (now words) ≤ 65536) ⌝ }
+    ensures { λ _. ⌜ now (words .exit) ≡ moved W order (now (words .entry)) from to (k * W) ⌝ }
 {
     if k == 0 {
         return;
     }
-    let a = to / 8;
-    let b = from / 8;
-    let h = from % 8;
-    if h == 0 {
-        plain_up(words, b, a, k);
-        return;
-    }
-    if a == b {
-        joined_up(words, order, Index(h), a, a, k);
-        return;
-    }
-    joined_up(words, order, Index(h), b, a, k);
-}
-
-// The same downward. Where word a is the one after word b, the compiler is shown so too.
-fn whole_down(words: &mut [u8], order: Order, from: usize, to: usize, k: usize)
-    requires { ⌜ (1 ≤ k → to % 8 ≡ 0) × (from + k * 8 ≤ length (now words) * 8) × (to + k * 8 ≤ length (now words) * 8) × (from ≤ to) × (length (now words) ≤ 65536) ⌝ }
-    ensures { λ _. ⌜ now (words .exit) ≡ moved 8 order (now (words .entry)) from to (k * 8) ⌝ }
-{
-    if k == 0 {
-        return;
-    }
-    let a = to / 8;
-    let b = from / 8;
-    let h = from % 8;
+    let a = to / W;
+    let b = from / W;
+    let h = from % W;
     if h == 0 {
         plain_down(words, b, a, k);
         return;
@@ -152,64 +110,115 @@ fn whole_down(words: &mut [u8], order: Order, from: usize, to: usize, k: usize)
     joined_down(words, order, Index(h), b, a, k);
 }
 
-// Upward, the first bits first: for a source range that does not contain the destination.
-fn move_up(words: &mut [u8], order: Order, from: usize, to: usize, n: usize)
-    requires { ⌜ (from + n ≤ length (now words) * 8) × (to + n ≤ length (now words) * 8) × ((to ≤ from) ⊎ (from + n ≤ to)) × (length (now words) ≤ 65536) ⌝ }
-    ensures { λ _. ⌜ now (words .exit) ≡ moved 8 order (now (words .entry)) from to n ⌝ }
+// k whole words of the destination, the first one first. Where a destination word is its own source word, a loop that says so: the compiler
+// then makes vector code of it.
+fn whole_up(words: &mut [Word], order: Order, from: usize, to: usize, k: usize)
+    requires { ⌜ (1 ≤ k → to % W ≡ 0) × (from + k * W ≤ length (now words) * W) × (to + k * W ≤ length (now words) * W)
+        × ((to ≤ from) ⊎ (from + k * W ≤ to)) × (length (now words) ≤ 65536) ⌝ }
+    ensures { λ _. ⌜ now (words .exit) ≡ moved W order (now (words .entry)) from to (k * W) ⌝ }
 {
-    let first = lead(to, n);
-    first_piece(words, order, from, to, first);
-    let k = (n - first) / 8;
-    whole_up(words, order, from + first, to + first, k);
-    let most = first + k * 8;
-    last_piece(words, order, from + most, to + most, n - most);
-}
-
-// Downward, the last bits first: for a destination at or past the source's start.
-fn move_down(words: &mut [u8], order: Order, from: usize, to: usize, n: usize)
-    requires { ⌜ (from + n ≤ length (now words) * 8) × (to + n ≤ length (now words) * 8) × (from ≤ to) × (length (now words) ≤ 65536) ⌝ }
-    ensures { λ _. ⌜ now (words .exit) ≡ moved 8 order (now (words .entry)) from to n ⌝ }
-{
-    let first = lead(to, n);
-    let k = (n - first) / 8;
-    let most = first + k * 8;
-    last_piece(words, order, from + most, to + most, n - most);
-    whole_down(words, order, from + first, to + first, k);
-    first_piece(words, order, from, to, first);
-}
-
-// n bits from place `from` on become those from place `to` on, in the direction that the overlap asks.
-fn move_row(words: &mut [u8], order: Order, from: usize, to: usize, n: usize)
-    requires { ⌜ (from + n ≤ length (now words) * 8) × (to + n ≤ length (now words) * 8) × (length (now words) ≤ 65536) ⌝ }
-    ensures { λ _. ⌜ now (words .exit) ≡ moved 8 order (now (words .entry)) from to n ⌝ }
-{
-    if from <= to {
-        if to < from + n {
-            move_down(words, order, from, to, n);
-            return;
-        }
+    if k == 0 {
+        return;
     }
-    move_up(words, order, from, to, n);
+    let a = to / W;
+    let b = from / W;
+    let h = from % W;
+    if h == 0 {
+        plain_up(words, b, a, k);
+        return;
+    }
+    if a == b {
+        joined_up(words, order, Index(h), a, a, k);
+        return;
+    }
+    joined_up(words, order, Index(h), b, a, k);
 }
 
-// Bit destination + i of the span becomes the old bit start + i, for all i below count at once: 1 to 3, 10.
-pub fn copy_within(
-    words: &mut [u8],
-    span: Span,
-    start: usize,
-    count: usize,
-    destination: usize,
-) -> WriteAnswer
-    ensures { λ r. ⌜ Gives 8 (copyWithin span start count destination) (now (words .entry)) (writeSays r) (now (words .exit)) ⌝ }
+// k words from word b on, the last one first, each from the word before it and itself. The loop speaks of word b alone and counts last, so
+// that the compiler sees which words overlap.
+fn joined_next(words: &mut [Word], order: Order, head: Index, b: usize, k: usize)
+    requires { ⌜ (1 ≤ head .0) × (head .0 < W) × (b + 1 + k ≤ length (now words)) × (length (now words) ≤ 65536) ⌝ }
+    ensures { λ _. ⌜ now (words .exit) ≡ moved W order (now (words .entry)) (b * W + head .0) ((b + 1) * W) (k * W) ⌝ }
 {
-    let verdict = check_copy_within(Width::W8, words.len(), span, start, count, destination);
-    match verdict {
-        Verdict::Refused(no) => WriteAnswer::Refused(no),
-        Verdict::Fine => {
-            let order = span.order;
-            let base = span.word * 8 + span.head.0;
-            move_row(words, order, base + start, base + destination, count);
-            WriteAnswer::Done
-        }
+    let mut i: usize = k;
+    while 0 < i {
+        let at = b + i;
+        words[at] = joined(order, head, words[at - 1], words[at]);
+        i = i - 1;
     }
+}
+
+// k words from word b on, the last one first, each joined of two words from word a on at a head.
+fn joined_down(words: &mut [Word], order: Order, head: Index, b: usize, a: usize, k: usize)
+    requires { ⌜ (1 ≤ head .0) × (head .0 < W) × (b + k + 1 ≤ length (now words)) × (a + k ≤ length (now words)) × (b + 1 ≤ a)
+        × (length (now words) ≤ 65536) ⌝ }
+    ensures { λ _. ⌜ now (words .exit) ≡ moved W order (now (words .entry)) (b * W + head .0) (a * W) (k * W) ⌝ }
+{
+    let mut i: usize = k;
+    while 0 < i {
+        i = i - 1;
+        words[a + i] = joined(order, head, words[b + i], words[b + i + 1]);
+    }
+}
+
+// k words from word b on, the last one first, become those from word a on.
+fn plain_down(words: &mut [Word], b: usize, a: usize, k: usize)
+    requires { ⌜ (b + k ≤ length (now words)) × (a + k ≤ length (now words)) × (b ≤ a) × (length (now words) ≤ 65536) ⌝ }
+    ensures { λ _. ⌜ ((o : Order) → Words W (now (words .entry)) → now (words .exit) ≡ moved W o (now (words .entry)) (b * W + 0) (a * W) (k * W)) ⌝ }
+{
+    let mut i: usize = k;
+    while 0 < i {
+        i = i - 1;
+        words[a + i] = words[b + i];
+    }
+}
+
+// k words from word b on, the first one first, each joined of two words from word a on at a head.
+fn joined_up(words: &mut [Word], order: Order, head: Index, b: usize, a: usize, k: usize)
+    requires { ⌜ (1 ≤ head .0) × (head .0 < W) × (b + k + 1 ≤ length (now words)) × (a + k ≤ length (now words)) × ((a ≤ b) ⊎ (b + k + 1 ≤ a))
+        × (length (now words) ≤ 65536) ⌝ }
+    ensures { λ _. ⌜ now (words .exit) ≡ moved W order (now (words .entry)) (b * W + head .0) (a * W) (k * W) ⌝ }
+{
+    let mut i: usize = 0;
+    while i < k {
+        words[a + i] = joined(order, head, words[b + i], words[b + i + 1]);
+        i = i + 1;
+    }
+}
+
+// k words from word b on, the first one first, become those from word a on.
+fn plain_up(words: &mut [Word], b: usize, a: usize, k: usize)
+    requires { ⌜ (b + k ≤ length (now words)) × (a + k ≤ length (now words)) × ((a ≤ b) ⊎ (b + k ≤ a)) × (length (now words) ≤ 65536) ⌝ }
+    ensures { λ _. ⌜ ((o : Order) → Words W (now (words .entry)) → now (words .exit) ≡ moved W o (now (words .entry)) (b * W + 0) (a * W) (k * W)) ⌝ }
+{
+    let mut i: usize = 0;
+    while i < k {
+        words[a + i] = words[b + i];
+        i = i + 1;
+    }
+}
+
+// The last piece of the destination: n bits from a word's start on, all read before one is written.
+fn last_piece(words: &mut [Word], order: Order, from: usize, to: usize, n: usize)
+    requires { ⌜ (1 ≤ n → to % W ≡ 0) × (n ≤ W) × (from + n ≤ length (now words) * W) × (to + n ≤ length (now words) * W) × (length (now words) ≤ 65536) ⌝ }
+    ensures { λ _. ⌜ now (words .exit) ≡ moved W order (now (words .entry)) from to n ⌝ }
+{
+    if n == 0 {
+        return;
+    }
+    let at = to / W * W;
+    let v = fetch(words, order, from, Index(at % W), n);
+    put(words, order, at, n, v);
+}
+
+// The first piece of the destination: n bits that end in the word where they begin, all read before one is written.
+fn first_piece(words: &mut [Word], order: Order, from: usize, to: usize, n: usize)
+    requires { ⌜ (to % W + n ≤ W) × (from + n ≤ length (now words) * W) × (to + n ≤ length (now words) * W) ⌝ }
+    ensures { λ _. ⌜ now (words .exit) ≡ moved W order (now (words .entry)) from to n ⌝ }
+{
+    if n == 0 {
+        return;
+    }
+    let v = fetch(words, order, from, Index(to % W), n);
+    put(words, order, to, n, v);
 }

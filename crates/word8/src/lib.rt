@@ -1,4 +1,4 @@
-// The leaves that know a word of 8 bits. All that is done to a word by its order is done here.
+// The leaves that know a word of 8 bits. All that is done to a word by its order is done here; what is above speaks of indexes alone.
 mod zeros;
 
 use rules::Index;
@@ -12,46 +12,48 @@ ghost use mathlib.Core.Path.{_≡_};
 ghost use Prim.Native.Nat.{min, _+_, _-_, _*_, _/_, _%_, _^_, _≤_, _<_};
 ghost use lib.Bits.{bitAnd};
 ghost use lib.ListN.{length, getD};
+ghost use Rattle.word8.specs.Width.{W};
 ghost use Rattle.rules.specs.Bits.{bitN};
 ghost use Rattle.rules.specs.Positions.{position, mask, row, spliced};
-ghost use Rattle.rules.proofs.Funnel.{funneled};
-ghost use Rattle.rules.proofs.Merged.{selected};
-ghost use Rattle.rules.proofs.Moves.{downOf, upOf, Carries};
+ghost use Rattle.laws.proofs.words.Funnel.{funneled};
+ghost use Rattle.laws.proofs.words.Merged.{selected};
+ghost use Rattle.laws.proofs.words.Moves.{downOf, upOf, Carries};
 
-// The mask of the n positions from `lowest` up, of which there is one at least.
-fn ones(lowest: Position, n: usize) -> Mask
-    requires { ⌜ (1 ≤ n) × (lowest .0 + n ≤ 8) ⌝ }
-    ensures { λ r. ⌜ r .0 ≡ (2 ^ n - 1) * 2 ^ lowest .0 ⌝ }
-{
-    let p = lowest.0;
-    let low = 0xffu8 >> (8 - n);
-    let moved = low << p;
-    Mask(moved as u64)
-}
+// A word of 8 bits.
+pub type Word = u8;
 
-// The mask of the n indexes from `head` on, of which there is one at least.
+// How many bits it has.
+pub const W: usize = 8;
+
+// Its highest position.
+pub const TOP: usize = W - 1;
+
+// The word that is all ones.
+pub const ONES: Word = !0;
+
+// The mask of the n indexes from `head` on. There is at least one.
 pub fn mask(order: Order, head: Index, n: usize) -> Mask
-    requires { ⌜ (1 ≤ n) × (head .0 + n ≤ 8) ⌝ }
-    ensures { λ r. ⌜ r .0 ≡ mask 8 order (head .0) (head .0 + n) ⌝ }
+    requires { ⌜ (1 ≤ n) × (head .0 + n ≤ W) ⌝ }
+    ensures { λ r. ⌜ r .0 ≡ mask W order (head .0) (head .0 + n) ⌝ }
 {
     let h = head.0;
     match order {
         Order::Lsb0 => ones(Position(h), n),
-        Order::Msb0 => ones(Position(8 - h - n), n),
+        Order::Msb0 => ones(Position(W - h - n), n),
     }
 }
 
-// The bits of x where m has ones.
-pub fn under(m: Mask, x: u8) -> u8
+// The bits of x where the mask has ones, and 0 elsewhere.
+pub fn under(m: Mask, x: Word) -> Word
     ensures { λ r. ⌜ r ≡ bitAnd x (m .0) ⌝ }
 {
-    (x as u64 & m.0) as u8
+    (x as u64 & m.0) as Word
 }
 
-// A word moved k indexes down.
-pub fn down(order: Order, x: u8, k: usize) -> u8
-    requires { ⌜ k < 8 ⌝ }
-    ensures { λ r. ⌜ r ≡ downOf 8 order x k ⌝ }
+// A word moved k indexes down: its bit at index k + i is then at index i.
+pub fn down(order: Order, x: Word, k: usize) -> Word
+    requires { ⌜ k < W ⌝ }
+    ensures { λ r. ⌜ r ≡ downOf W order x k ⌝ }
 {
     match order {
         Order::Lsb0 => x >> k,
@@ -59,10 +61,10 @@ pub fn down(order: Order, x: u8, k: usize) -> u8
     }
 }
 
-// A word moved k indexes up.
-pub fn up(order: Order, x: u8, k: usize) -> u8
-    requires { ⌜ k < 8 ⌝ }
-    ensures { λ r. ⌜ r ≡ upOf 8 order x k ⌝ }
+// A word moved k indexes up: its bit at index i is then at index k + i.
+pub fn up(order: Order, x: Word, k: usize) -> Word
+    requires { ⌜ k < W ⌝ }
+    ensures { λ r. ⌜ r ≡ upOf W order x k ⌝ }
 {
     match order {
         Order::Lsb0 => x << k,
@@ -70,20 +72,20 @@ pub fn up(order: Order, x: u8, k: usize) -> u8
     }
 }
 
-// The word that begins at index `head` of x and goes on in y, the next one.
-pub fn joined(order: Order, head: Index, x: u8, y: u8) -> u8
-    requires { ⌜ (1 ≤ head .0) × (head .0 < 8) ⌝ }
-    ensures { λ r. ⌜ r ≡ funneled 8 order (head .0) x y ⌝ }
+// The word that begins at index `head` of x and goes on in y, the next one. Two shifts of y make one by W - head, of which neither is by W.
+pub fn joined(order: Order, head: Index, x: Word, y: Word) -> Word
+    requires { ⌜ (1 ≤ head .0) × (head .0 < W) ⌝ }
+    ensures { λ r. ⌜ r ≡ funneled W order (head .0) x y ⌝ }
 {
     let h = head.0;
     match order {
-        Order::Lsb0 => x >> h | y << 1 << (7 - h),
-        Order::Msb0 => x << h | y >> 1 >> (7 - h),
+        Order::Lsb0 => x >> h | y << 1 << (TOP - h),
+        Order::Msb0 => x << h | y >> 1 >> (TOP - h),
     }
 }
 
-// The bits of v where m has ones, else those of u.
-pub fn select(m: Mask, u: u8, v: u8) -> u8
+// The bits of v where the mask has ones, and those of u elsewhere.
+pub fn select(m: Mask, u: Word, v: Word) -> Word
     ensures { λ r. ⌜ r ≡ selected (m .0) u v ⌝ }
 {
     u ^ under(m, u ^ v)
@@ -96,45 +98,56 @@ pub fn least(a: usize, b: usize) -> usize
     if a < b { a } else { b }
 }
 
-// Of len bits from place `at` on, those up to the next word's start, or all.
+// How many of `len` bits from place `at` on lie before the next word's start: none where a word starts there.
 pub fn lead(at: usize, len: usize) -> usize
-    ensures { λ r. ⌜ (r ≤ len) × (at % 8 + r ≤ 8) × (r < len → (at + r) % 8 ≡ 0) ⌝ }
+    ensures { λ r. ⌜ (r ≤ len) × (at % W + r ≤ W) × (r < len → (at + r) % W ≡ 0) ⌝ }
 {
-    let h = at % 8;
+    let h = at % W;
     if h == 0 {
         return 0;
     }
-    let r = 8 - h;
+    let r = W - h;
     if len < r { len } else { r }
 }
 
-// n bits of a row from place s on, brought to the indexes from `head` on. Its other bits are any.
-pub fn fetch(source: &[u8], order: Order, s: usize, head: Index, n: usize) -> u8
-    requires { ⌜ (1 ≤ n) × (head .0 + n ≤ 8) × (s + n ≤ length (now source) * 8) ⌝ }
-    ensures { λ r. ⌜ Carries 8 order r (head .0) n (λ i. row 8 order (now (source .entry)) (s + i)) ⌝ }
+// n bits of a row from place s on, brought to the indexes from `head` on. What its other bits are is not said.
+pub fn fetch(source: &[Word], order: Order, s: usize, head: Index, n: usize) -> Word
+    requires { ⌜ (1 ≤ n) × (head .0 + n ≤ W) × (s + n ≤ length (now source) * W) ⌝ }
+    ensures { λ r. ⌜ Carries W order r (head .0) n (λ i. row W order (now (source .entry)) (s + i)) ⌝ }
 {
     let h = head.0;
     if s < h {
         return up(order, source[0], h - s);
     }
-    let b = (s - h) / 8;
-    let g = (s - h) % 8;
+    let b = (s - h) / W;
+    let g = (s - h) % W;
     if g == 0 {
         return source[b];
     }
-    if g + h + n <= 8 {
+    if g + h + n <= W {
         return down(order, source[b], g);
     }
     joined(order, Index(g), source[b], source[b + 1])
 }
 
-// n bits within one word of a row from place d on become those that v has at the same indexes.
-pub fn put(words: &mut [u8], order: Order, d: usize, n: usize, v: u8)
-    requires { ⌜ (1 ≤ n) × (d % 8 + n ≤ 8) × (d + n ≤ length (now words) * 8) ⌝ }
-    ensures { λ _. ⌜ now (words .exit) ≡ spliced 8 order (now (words .entry)) d n (λ i. bitN v (position 8 order (d % 8 + i))) ⌝ }
+// n bits within one word of a row, from place d on, become those that v has at the same indexes.
+pub fn put(words: &mut [Word], order: Order, d: usize, n: usize, v: Word)
+    requires { ⌜ (1 ≤ n) × (d % W + n ≤ W) × (d + n ≤ length (now words) * W) ⌝ }
+    ensures { λ _. ⌜ now (words .exit) ≡ spliced W order (now (words .entry)) d n (λ i. bitN v (position W order (d % W + i))) ⌝ }
 {
-    let word = d / 8;
-    let m = mask(order, Index(d % 8), n);
+    let word = d / W;
+    let m = mask(order, Index(d % W), n);
     let x = select(m, words[word], v);
     words[word] = x;
+}
+
+// The mask of the n positions from `lowest` up. There is at least one.
+fn ones(lowest: Position, n: usize) -> Mask
+    requires { ⌜ (1 ≤ n) × (lowest .0 + n ≤ W) ⌝ }
+    ensures { λ r. ⌜ r .0 ≡ (2 ^ n - 1) * 2 ^ lowest .0 ⌝ }
+{
+    let p = lowest.0;
+    let low = ONES >> (W - n);
+    let moved = low << p;
+    Mask(moved as u64)
 }

@@ -6,9 +6,10 @@ use native.Mathlib.Omega.{arith}
 use lib.Dec.{lit<}
 use borrow.Author.Needs.{needs}
 use denote.Ref.{now}
+use Rattle.word64.specs.Width.{W}
 use Rattle.rules.specs.Positions.{row}
-use Rattle.rules.proofs.RowPieces.{on-word}
-use Rattle.rules.proofs.Combine.{combined-on}
+use Rattle.laws.proofs.rows.Part.{on-word}
+use Rattle.laws.proofs.words.Combine.{combined-on}
 use Rattle.boolean64.proofs.between.Statement.{statement}
 use Rattle.boolean64.proofs.between.Tie as tie
 
@@ -52,7 +53,7 @@ last-piece-requires c κs =
     let at-lead = c .before .before .before .before .before .before .before .before .before in
     let a = at-lead .before .before .before .args in
     let r = at-lead .lead .result in
-    ((λ h. on-word 64 (a .d) r ((a .len - r) / 64) (at-lead .lead .ensures .2 (omega arith))), omega arith, omega arith, omega arith, omega arith)
+    ((λ h. on-word W (a .d) r ((a .len - r) / W) (at-lead .lead .ensures .2 (omega arith))), omega arith, omega arith, omega arith, omega arith)
 
 same-length : tie.Need-same-length
 same-length c = search needs
@@ -65,10 +66,10 @@ returns c =
     let at-lead = one .before .before in
     let a = at-lead .before .before .before .args in
     let r = at-lead .lead .result in
-    let k = (a .len - r) / 64 in
-    combined-on 64 (lit< tt) (a .order) (now (a .words)) (a .d) (a .operation) (λ j. row 64 (a .order) (now (a .right)) (a .s + j)) (r + k * 64) (a .len - (r + k * 64)) (a .len) (λ j. row 64 (a .order) (now (a .right)) (a .s + (r + k * 64) + j)) (omega arith) (omega arith)
-    (combined-on 64 (lit< tt) (a .order) (now (a .words)) (a .d) (a .operation) (λ j. row 64 (a .order) (now (a .right)) (a .s + j)) r (k * 64) (r + k * 64) (λ j. row 64 (a .order) (now (a .right)) (a .s + r + j)) refl (omega arith) (one .first-piece .ensures) (second .whole-words .ensures) (λ j l. ap (row 64 (a .order) (now (a .right))) (add-assoc (a .s) r j)))
-    (third .last-piece .ensures) (λ j l. ap (row 64 (a .order) (now (a .right))) (add-assoc (a .s) (r + k * 64) j))
+    let k = (a .len - r) / W in
+    combined-on W (lit< tt) (a .order) (now (a .words)) (a .d) (a .operation) (λ j. row W (a .order) (now (a .right)) (a .s + j)) (r + k * W) (a .len - (r + k * W)) (a .len) (λ j. row W (a .order) (now (a .right)) (a .s + (r + k * W) + j)) (omega arith) (omega arith)
+    (combined-on W (lit< tt) (a .order) (now (a .words)) (a .d) (a .operation) (λ j. row W (a .order) (now (a .right)) (a .s + j)) r (k * W) (r + k * W) (λ j. row W (a .order) (now (a .right)) (a .s + r + j)) refl (omega arith) (one .first-piece .ensures) (second .whole-words .ensures) (λ j l. ap (row W (a .order) (now (a .right))) (add-assoc (a .s) r j)))
+    (third .last-piece .ensures) (λ j l. ap (row W (a .order) (now (a .right))) (add-assoc (a .s) (r + k * W) j))
 
 pub between-spec : {M : Type 1} → statement M
 between-spec =

@@ -1,6 +1,6 @@
 -- `boolean64::choose` is the merge by its own definition.
 use mathlib.Core.Path.{refl}
-use Rattle.rules.proofs.Merged.{selected}
+use Rattle.laws.proofs.words.Merged.{selected}
 use Rattle.boolean64.proofs.choose.Statement.{statement}
 use Rattle.boolean64.proofs.choose.Tie as tie
 

@@ -5,14 +5,15 @@ use native.Mathlib.Omega.{arith}
 use lib.ListN.{length, getD, length-set}
 use borrow.Author.Count.{below-none}
 use denote.Ref.{now}
-use Rattle.rules.proofs.Funnel.{funneled}
-use Rattle.rules.proofs.Filled.{filled-more, kept-more}
-use Rattle.rules.proofs.Combine.{wordwise}
+use Rattle.word64.specs.Width.{W}
+use Rattle.laws.proofs.words.Funnel.{funneled}
+use Rattle.laws.proofs.rows.Filled.{filled-more, kept-more}
+use Rattle.laws.proofs.words.Combine.{wordwise}
 use Rattle.boolean64.proofs.funnel_words.Statement.{statement}
 use Rattle.boolean64.proofs.funnel_words.Tie as tie
 
 abbrev Inv-loop : tie.InvT-loop
-Inv-loop words₀ order operation right head i₀ words i = (i ≤ length words₀) × (length words ≡ length words₀) × ((k : ℕ) → k < i → getD words k 0 ≡ wordwise 64 operation (getD words₀ k 0) (funneled 64 order (head .0) (getD right k 0) (getD right (k + 1) 0)))
+Inv-loop words₀ order operation right head i₀ words i = (i ≤ length words₀) × (length words ≡ length words₀) × ((k : ℕ) → k < i → getD words k 0 ≡ wordwise W operation (getD words₀ k 0) (funneled W order (head .0) (getD right k 0) (getD right (k + 1) 0)))
     × ((k : ℕ) → i ≤ k → getD words k 0 ≡ getD words₀ k 0)
 
 abbrev μ-loop : tie.MeasureT-loop
@@ -21,6 +22,7 @@ abbrev μ-loop : tie.MeasureT-loop
 loop-holds : tie.Need-loop-holds Inv-loop μ-loop
 loop-holds c = (omega arith, refl, below-none _, (λ k l. refl))
 
+-- asked above 8 bits
 mul-joined : tie.Need-mul-joined Inv-loop μ-loop
 mul-joined c = omega arith
 
@@ -30,6 +32,7 @@ shared-slice-read-joined c = omega arith
 add-joined : tie.Need-add-joined Inv-loop μ-loop
 add-joined c = omega arith
 
+-- asked above 8 bits
 mul-joined-2 : tie.Need-mul-joined-2 Inv-loop μ-loop
 mul-joined-2 c = omega arith
 
@@ -39,6 +42,7 @@ shared-slice-read-joined-2 c = omega arith
 joined-requires : tie.Need-joined-requires Inv-loop μ-loop
 joined-requires c κs = omega arith
 
+-- asked above 8 bits
 mul-apply : tie.Need-mul-apply Inv-loop μ-loop
 mul-apply c = omega arith
 
@@ -48,6 +52,7 @@ slice-read-apply c = omega arith
 apply-requires : tie.Need-apply-requires Inv-loop μ-loop
 apply-requires c κs = omega arith
 
+-- asked above 8 bits
 mul-words : tie.Need-mul-words Inv-loop μ-loop
 mul-words c = omega arith
 
@@ -67,8 +72,8 @@ loop-again c =
     let i = turn .loop .i in (
       omega arith,
       simp length-set (turn .loop .inv .1),
-      filled-more (turn .loop .words) i (c .apply .result) (λ k. wordwise 64 (a .operation) (getD (now (a .words)) k 0) (funneled 64 (a .order) (a .head .0) (getD (now (a .right)) k 0) (getD (now (a .right)) (k + 1) 0))) (omega arith) (turn .loop .inv .2)
-          (c .apply .ensures ∙ ap₂ (wordwise 64 (a .operation)) (turn .loop .inv .3 i (omega arith)) (c .before .before .joined .ensures)),
+      filled-more (turn .loop .words) i (c .apply .result) (λ k. wordwise W (a .operation) (getD (now (a .words)) k 0) (funneled W (a .order) (a .head .0) (getD (now (a .right)) k 0) (getD (now (a .right)) (k + 1) 0))) (omega arith) (turn .loop .inv .2)
+          (c .apply .ensures ∙ ap₂ (wordwise W (a .operation)) (turn .loop .inv .3 i (omega arith)) (c .before .before .joined .ensures)),
       kept-more (turn .loop .words) i (c .apply .result) (now (a .words)) (turn .loop .inv .3),
     )
 

@@ -5,12 +5,14 @@ use native.Mathlib.Omega.{arith}
 use lib.Dec.{lit<}
 use borrow.Author.Needs.{needs}
 use denote.Ref.{now}
+use Rattle.word64.specs.Width.{W}
 use Rattle.rules.specs.Bits.{bitN}
 use Rattle.rules.specs.Positions.{position}
-use Rattle.rules.proofs.Combine.{piece-combined}
+use Rattle.laws.proofs.words.Combine.{piece-combined}
 use Rattle.boolean64.proofs.piece.Statement.{statement}
 use Rattle.boolean64.proofs.piece.Tie as tie
 
+-- asked above 8 bits
 mul-apply : tie.Need-mul-apply
 mul-apply c = search needs
 
@@ -31,9 +33,16 @@ returns c =
     let at-put = c .before .before in
     let at-apply = at-put .before .before in
     let a = at-apply .before .before .before .args in
-    piece-combined 64 (lit< tt) (a .order) (now (a .words)) (a .d) (a .operation) (λ i. bitN (a .v) (position 64 (a .order) (a .d % 64 + i))) (a .n) (a .v) (at-apply .apply .result) (omega arith)
+    piece-combined W (lit< tt) (a .order) (now (a .words)) (a .d) (a .operation) (λ i. bitN (a .v) (position W (a .order) (a .d % W + i))) (a .n) (a .v) (at-apply .apply .result) (omega arith)
     (at-apply .apply .ensures) (λ i l. refl) (at-put .put .ensures)
 
 pub piece-spec : {M : Type 1} → statement M
 piece-spec =
-    tie.close (tie.spec mul-apply slice-read-apply apply-requires put-requires same-length returns)
+    tie.close
+    (tie.spec
+    mul-apply
+    slice-read-apply
+    apply-requires
+    put-requires
+    same-length
+    returns)

@@ -5,13 +5,14 @@ use native.Mathlib.Omega.{arith}
 use lib.ListN.{length, getD, length-set}
 use borrow.Author.Count.{below-none}
 use denote.Ref.{now}
-use Rattle.rules.proofs.Filled.{filled-more, kept-more}
-use Rattle.rules.proofs.Combine.{wordwise}
+use Rattle.word64.specs.Width.{W}
+use Rattle.laws.proofs.rows.Filled.{filled-more, kept-more}
+use Rattle.laws.proofs.words.Combine.{wordwise}
 use Rattle.boolean64.proofs.plain_words.Statement.{statement}
 use Rattle.boolean64.proofs.plain_words.Tie as tie
 
 abbrev Inv-loop : tie.InvT-loop
-Inv-loop words₀ operation right i₀ words i = (i ≤ length words₀) × (length words ≡ length words₀) × ((k : ℕ) → k < i → getD words k 0 ≡ wordwise 64 operation (getD words₀ k 0) (getD right k 0))
+Inv-loop words₀ operation right i₀ words i = (i ≤ length words₀) × (length words ≡ length words₀) × ((k : ℕ) → k < i → getD words k 0 ≡ wordwise W operation (getD words₀ k 0) (getD right k 0))
     × ((k : ℕ) → i ≤ k → getD words k 0 ≡ getD words₀ k 0)
 
 abbrev μ-loop : tie.MeasureT-loop
@@ -20,12 +21,14 @@ abbrev μ-loop : tie.MeasureT-loop
 loop-holds : tie.Need-loop-holds Inv-loop μ-loop
 loop-holds c = (omega arith, refl, below-none _, (λ k l. refl))
 
+-- asked above 8 bits
 mul-apply : tie.Need-mul-apply Inv-loop μ-loop
 mul-apply c = omega arith
 
 slice-read-apply : tie.Need-slice-read-apply Inv-loop μ-loop
 slice-read-apply c = omega arith
 
+-- asked above 8 bits
 mul-apply-2 : tie.Need-mul-apply-2 Inv-loop μ-loop
 mul-apply-2 c = omega arith
 
@@ -35,6 +38,7 @@ shared-slice-read-apply c = omega arith
 apply-requires : tie.Need-apply-requires Inv-loop μ-loop
 apply-requires c κs = omega arith
 
+-- asked above 8 bits
 mul-words : tie.Need-mul-words Inv-loop μ-loop
 mul-words c = omega arith
 
@@ -54,8 +58,8 @@ loop-again c =
     let i = turn .loop .i in (
       omega arith,
       simp length-set (turn .loop .inv .1),
-      filled-more (turn .loop .words) i (c .apply .result) (λ k. wordwise 64 (a .operation) (getD (now (a .words)) k 0) (getD (now (a .right)) k 0)) (omega arith) (turn .loop .inv .2)
-          (c .apply .ensures ∙ ap (λ (x : ℕ). wordwise 64 (a .operation) x (getD (now (a .right)) i 0)) (turn .loop .inv .3 i (omega arith))),
+      filled-more (turn .loop .words) i (c .apply .result) (λ k. wordwise W (a .operation) (getD (now (a .words)) k 0) (getD (now (a .right)) k 0)) (omega arith) (turn .loop .inv .2)
+          (c .apply .ensures ∙ ap (λ (x : ℕ). wordwise W (a .operation) x (getD (now (a .right)) i 0)) (turn .loop .inv .3 i (omega arith))),
       kept-more (turn .loop .words) i (c .apply .result) (now (a .words)) (turn .loop .inv .3),
     )
 

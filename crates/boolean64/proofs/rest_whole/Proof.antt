@@ -4,12 +4,12 @@ use native.Mathlib.Omega.{arith}
 use lib.Dec.{lit<}
 use borrow.Author.Needs.{needs}
 use denote.Ref.{now}
+use Rattle.word64.specs.Width.{W}
 use Rattle.rules.specs.Positions.{row}
 use Rattle.rules.specs.Rows.{applied}
-use Rattle.rules.proofs.Bit.{bit-of-zero}
-use Rattle.rules.proofs.WholeWords.{mid-length}
-use Rattle.rules.proofs.RowPieces.{none-put}
-use Rattle.rules.proofs.Combine.{words-combined}
+use Rattle.rules.proofs.bits.Bit.{bit-of-zero}
+use Rattle.laws.proofs.rows.Part.{mid-length, none-put}
+use Rattle.laws.proofs.words.Combine.{words-combined}
 use Rattle.boolean64.proofs.rest_whole.Statement.{statement}
 use Rattle.boolean64.proofs.rest_whole.Tie as tie
 
@@ -17,11 +17,12 @@ returns : tie.Need-returns
 returns c =
     let known = c .before in
     let a = known .before .args in
-    none-put 64 (lit< tt) (a .order) (now (a .words)) (a .d) (λ i. applied (a .operation) (row 64 (a .order) (now (a .words)) (a .d + i)) 0) (a .k * 64) (omega arith) (λ k. known .slice-known .given k .fits)
+    none-put W (lit< tt) (a .order) (now (a .words)) (a .d) (λ i. applied (a .operation) (row W (a .order) (now (a .words)) (a .d + i)) 0) (a .k * W) (omega arith) (λ k. known .slice-known .given k .fits)
 
 add-e : tie.Need-add-e
 add-e c = search needs
 
+-- asked above 8 bits
 mul-rest-words : tie.Need-mul-rest-words
 mul-rest-words c = search needs
 
@@ -45,9 +46,9 @@ returns-2 c =
     let call = c .before .before in
     let known = call .before .before .before in
     let a = known .before .args in
-    let i = a .d / 64 in
+    let i = a .d / W in
     let z = known .before .pre .0 (omega arith) in
-    words-combined 64 (lit< tt) (a .order) (now (a .words)) (a .d) (a .operation) (λ _. 0) (call .rest-words .last .0) i (i + a .k - i) (a .k) (omega arith) (omega (arith, z)) (omega arith)
+    words-combined W (lit< tt) (a .order) (now (a .words)) (a .d) (a .operation) (λ _. 0) (call .rest-words .last .0) i (i + a .k - i) (a .k) (omega arith) (omega (arith, z)) (omega arith)
     (λ k. known .slice-known .given k .fits) (call .rest-words .kept .0) (λ _. 0)
     (λ j l. call .rest-words .ensures j (omega (arith, l, mid-length (now (a .words)) i (i + a .k - i) (a .k) (omega arith) (omega arith))))
     (λ j l p q. bit-of-zero p)

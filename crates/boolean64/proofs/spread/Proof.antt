@@ -1,7 +1,8 @@
 -- `boolean64::spread`: a bit is 0 or not.
 use borrow.Author.Needs.{needs}
+use Rattle.word64.specs.Width.{W}
 use Rattle.rules.specs.Bits.{bitN}
-use Rattle.rules.proofs.Combine.{spread-zero, spread-one}
+use Rattle.laws.proofs.words.Combine.{spread-zero, spread-one}
 use Rattle.boolean64.proofs.spread.Statement.{statement}
 use Rattle.boolean64.proofs.spread.Tie as tie
 
@@ -10,11 +11,11 @@ shr-bit c = search needs
 
 returns : tie.Need-returns
 unfolding bitN
-returns c = spread-zero 64 _ (c .if1 .taken)
+returns c = spread-zero W _ (c .if1 .taken)
 
 returns-2 : tie.Need-returns-2
 unfolding bitN
-returns-2 c = spread-one 64 _ (c .if1 .left)
+returns-2 c = spread-one W _ (c .if1 .left)
 
 pub spread-spec : {M : Type 1} → statement M
 spread-spec = tie.close (tie.spec shr-bit returns returns-2)

@@ -5,12 +5,13 @@ use lib.ListN.{getD, take, drop}
 use lib.Dec.{lit<}
 use borrow.Author.Needs.{needs}
 use denote.Ref.{now}
+use Rattle.word64.specs.Width.{W}
 use Rattle.rules.specs.Positions.{row}
 use Rattle.rules.specs.Rows.{applied}
-use Rattle.rules.proofs.Funnel.{funneled}
-use Rattle.rules.proofs.WholeWords.{mid-length, part-plain, part-joined}
-use Rattle.rules.proofs.RowPieces.{none-put}
-use Rattle.rules.proofs.Combine.{words-combined, right-word}
+use Rattle.laws.proofs.words.Funnel.{funneled}
+use Rattle.laws.proofs.rows.Part.{mid-length, none-put}
+use Rattle.laws.proofs.words.Wholes.{part-plain, part-joined}
+use Rattle.laws.proofs.words.Combine.{words-combined, right-word}
 use Rattle.boolean64.proofs.whole_words.Statement.{statement}
 use Rattle.boolean64.proofs.whole_words.Tie as tie
 
@@ -18,7 +19,7 @@ returns : tie.Need-returns
 returns c =
     let known = c .before .before in
     let a = known .before .args in
-    none-put 64 (lit< tt) (a .order) (now (a .words)) (a .d) (λ i. applied (a .operation) (row 64 (a .order) (now (a .words)) (a .d + i)) (row 64 (a .order) (now (a .right)) (a .s + i))) (a .k * 64) (omega arith) (λ k. known .slice-known .given k .fits)
+    none-put W (lit< tt) (a .order) (now (a .words)) (a .d) (λ i. applied (a .operation) (row W (a .order) (now (a .words)) (a .d + i)) (row W (a .order) (now (a .right)) (a .s + i))) (a .k * W) (omega arith) (λ k. known .slice-known .given k .fits)
 
 add-e : tie.Need-add-e
 add-e c = search needs
@@ -26,6 +27,7 @@ add-e c = search needs
 add-f : tie.Need-add-f
 add-f c = search needs
 
+-- asked above 8 bits
 mul-plain-cases : tie.Need-mul-plain-cases
 mul-plain-cases c = search needs
 
@@ -38,6 +40,7 @@ part-plain-cases-start c = search needs
 part-plain-cases-end : tie.Need-part-plain-cases-end
 part-plain-cases-end c = search needs
 
+-- asked above 8 bits
 mul-plain-cases-2 : tie.Need-mul-plain-cases-2
 mul-plain-cases-2 c = search needs
 
@@ -61,14 +64,14 @@ returns-2 c =
     let call = c .before .before in
     let known = call .before .before .before .before .before in
     let a = known .before .before .args in
-    let i = a .d / 64 in
-    let b = a .s / 64 in
+    let i = a .d / W in
+    let b = a .s / W in
     let z = known .before .before .pre .0 (omega arith) in
-    words-combined 64 (lit< tt) (a .order) (now (a .words)) (a .d) (a .operation) (λ j. row 64 (a .order) (now (a .right)) (a .s + j)) (call .plain-cases .last .0) i (i + a .k - i) (a .k) (omega arith) (omega (arith, z)) (omega arith)
+    words-combined W (lit< tt) (a .order) (now (a .words)) (a .d) (a .operation) (λ j. row W (a .order) (now (a .right)) (a .s + j)) (call .plain-cases .last .0) i (i + a .k - i) (a .k) (omega arith) (omega (arith, z)) (omega arith)
     (λ k. known .before .slice-known .given k .fits) (call .plain-cases .kept .0)
     (λ j. getD (take (b + a .k - b) (drop b (now (a .right)))) j 0)
     (λ j l. call .plain-cases .ensures j (omega (arith, l, mid-length (now (a .words)) i (i + a .k - i) (a .k) (omega arith) (omega arith))))
-    (λ j l. right-word 64 (a .order) (now (a .right)) (a .s) j (part-plain 64 (a .order) (now (a .right)) b (a .s) (λ k. known .shared-slice-known .given k .fits) (omega arith) (b + a .k - b) j (omega arith)))
+    (λ j l. right-word W (a .order) (now (a .right)) (a .s) j (part-plain W (a .order) (now (a .right)) b (a .s) (λ k. known .shared-slice-known .given k .fits) (omega arith) (b + a .k - b) j (omega arith)))
 
 add-f-2 : tie.Need-add-f-2
 add-f-2 c = search needs
@@ -76,6 +79,7 @@ add-f-2 c = search needs
 add-f-3 : tie.Need-add-f-3
 add-f-3 c = search needs
 
+-- asked above 8 bits
 mul-funnel-cases : tie.Need-mul-funnel-cases
 mul-funnel-cases c = search needs
 
@@ -88,6 +92,7 @@ part-funnel-cases-start c = search needs
 part-funnel-cases-end : tie.Need-part-funnel-cases-end
 part-funnel-cases-end c = search needs
 
+-- asked above 8 bits
 mul-funnel-cases-2 : tie.Need-mul-funnel-cases-2
 mul-funnel-cases-2 c = search needs
 
@@ -111,14 +116,14 @@ returns-3 c =
     let call = c .before .before in
     let known = call .before .before .before .before .before in
     let a = known .before .before .args in
-    let i = a .d / 64 in
-    let b = a .s / 64 in
+    let i = a .d / W in
+    let b = a .s / W in
     let z = known .before .before .pre .0 (omega arith) in
-    words-combined 64 (lit< tt) (a .order) (now (a .words)) (a .d) (a .operation) (λ j. row 64 (a .order) (now (a .right)) (a .s + j)) (call .funnel-cases .last .0) i (i + a .k - i) (a .k) (omega arith) (omega (arith, z)) (omega arith)
+    words-combined W (lit< tt) (a .order) (now (a .words)) (a .d) (a .operation) (λ j. row W (a .order) (now (a .right)) (a .s + j)) (call .funnel-cases .last .0) i (i + a .k - i) (a .k) (omega arith) (omega (arith, z)) (omega arith)
     (λ k. known .before .slice-known .given k .fits) (call .funnel-cases .kept .0)
-    (λ j. funneled 64 (a .order) (a .s % 64) (getD (take (b + a .k + 1 - b) (drop b (now (a .right)))) j 0) (getD (take (b + a .k + 1 - b) (drop b (now (a .right)))) (j + 1) 0))
+    (λ j. funneled W (a .order) (a .s % W) (getD (take (b + a .k + 1 - b) (drop b (now (a .right)))) j 0) (getD (take (b + a .k + 1 - b) (drop b (now (a .right)))) (j + 1) 0))
     (λ j l. call .funnel-cases .ensures j (omega (arith, l, mid-length (now (a .words)) i (i + a .k - i) (a .k) (omega arith) (omega arith))))
-    (λ j l. right-word 64 (a .order) (now (a .right)) (a .s) j (part-joined 64 (a .order) (now (a .right)) b (a .s) (λ k. known .shared-slice-known .given k .fits) (a .s % 64) (omega arith) (omega arith) (b + a .k + 1 - b) j (omega arith)))
+    (λ j l. right-word W (a .order) (now (a .right)) (a .s) j (part-joined W (a .order) (now (a .right)) b (a .s) (λ k. known .shared-slice-known .given k .fits) (a .s % W) (omega arith) (omega arith) (b + a .k + 1 - b) j (omega arith)))
 
 pub whole-words-spec : {M : Type 1} → statement M
 whole-words-spec =

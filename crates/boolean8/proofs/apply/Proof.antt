@@ -1,6 +1,7 @@
 -- `boolean8::apply`: and, or and xor of words are those of the truth table.
 use borrow.Author.Needs.{needs}
-use Rattle.rules.proofs.Combine.{and-word, or-word, xor-word}
+use Rattle.word8.specs.Width.{W}
+use Rattle.laws.proofs.words.Combine.{and-word, or-word, xor-word}
 use Rattle.boolean8.proofs.apply.Statement.{statement}
 use Rattle.boolean8.proofs.apply.Tie as tie
 
@@ -10,17 +11,17 @@ table-requires c κs = search needs
 returns : tie.Need-returns
 returns c =
     let start = c .before in
-    and-word 8 (start .args .a) (start .args .b) (start .fits .a .fits) (start .fits .b .fits) (search needs)
+    and-word W (start .args .a) (start .args .b) (start .fits .a .fits) (start .fits .b .fits) (search needs)
 
 returns-2 : tie.Need-returns-2
 returns-2 c =
     let start = c .before in
-    or-word 8 (start .args .a) (start .args .b) (start .fits .a .fits) (start .fits .b .fits) (search needs)
+    or-word W (start .args .a) (start .args .b) (start .fits .a .fits) (start .fits .b .fits) (search needs)
 
 returns-3 : tie.Need-returns-3
 returns-3 c =
     let start = c .before in
-    xor-word 8 (start .args .a) (start .args .b) (start .fits .a .fits) (start .fits .b .fits) (search needs)
+    xor-word W (start .args .a) (start .args .b) (start .fits .a .fits) (start .fits .b .fits) (search needs)
 
 returns-4 : tie.Need-returns-4
 returns-4 c = search needs

@@ -4,8 +4,9 @@ use Prim.Native.Nat.{ℕ, _+_}
 use lib.ListN.{getD}
 use borrow.Author.Needs.{needs}
 use denote.Ref.{now}
-use Rattle.rules.proofs.Funnel.{funneled}
-use Rattle.rules.proofs.Combine.{wordwise}
+use Rattle.word8.specs.Width.{W}
+use Rattle.laws.proofs.words.Funnel.{funneled}
+use Rattle.laws.proofs.words.Combine.{wordwise}
 use Rattle.boolean8.proofs.funnel_cases.Statement.{statement}
 use Rattle.boolean8.proofs.funnel_cases.Tie as tie
 
@@ -30,7 +31,7 @@ returns c =
     let arm = call .before .before in
     let a = arm .before .before .before .args in
     λ k l. call .funnel-words .ensures k l
-    ∙ ap (λ (x : ℕ). wordwise 8 x (getD (now (a .words)) k 0) (funneled 8 (a .order) (a .head .0) (getD (now (a .right)) k 0) (getD (now (a .right)) (k + 1) 0))) (sym (arm .match .keys1))
+    ∙ ap (λ (x : ℕ). wordwise W x (getD (now (a .words)) k 0) (funneled W (a .order) (a .head .0) (getD (now (a .right)) k 0) (getD (now (a .right)) (k + 1) 0))) (sym (arm .match .keys1))
 
 same-length-2 : tie.Need-same-length-2
 same-length-2 c = search needs
@@ -41,7 +42,7 @@ returns-2 c =
     let arm = call .before .before in
     let a = arm .before .before .before .args in
     λ k l. call .funnel-words2 .ensures k l
-    ∙ ap (λ (x : ℕ). wordwise 8 x (getD (now (a .words)) k 0) (funneled 8 (a .order) (a .head .0) (getD (now (a .right)) k 0) (getD (now (a .right)) (k + 1) 0))) (sym (arm .match .keys2))
+    ∙ ap (λ (x : ℕ). wordwise W x (getD (now (a .words)) k 0) (funneled W (a .order) (a .head .0) (getD (now (a .right)) k 0) (getD (now (a .right)) (k + 1) 0))) (sym (arm .match .keys2))
 
 same-length-3 : tie.Need-same-length-3
 same-length-3 c = search needs
@@ -52,7 +53,7 @@ returns-3 c =
     let arm = call .before .before in
     let a = arm .before .before .before .args in
     λ k l. call .funnel-words3 .ensures k l
-    ∙ ap (λ (x : ℕ). wordwise 8 x (getD (now (a .words)) k 0) (funneled 8 (a .order) (a .head .0) (getD (now (a .right)) k 0) (getD (now (a .right)) (k + 1) 0))) (sym (arm .match .keys3))
+    ∙ ap (λ (x : ℕ). wordwise W x (getD (now (a .words)) k 0) (funneled W (a .order) (a .head .0) (getD (now (a .right)) k 0) (getD (now (a .right)) (k + 1) 0))) (sym (arm .match .keys3))
 
 same-length-4 : tie.Need-same-length-4
 same-length-4 c = search needs

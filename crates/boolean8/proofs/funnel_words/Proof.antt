@@ -5,14 +5,15 @@ use native.Mathlib.Omega.{arith}
 use lib.ListN.{length, getD, length-set}
 use borrow.Author.Count.{below-none}
 use denote.Ref.{now}
-use Rattle.rules.proofs.Funnel.{funneled}
-use Rattle.rules.proofs.Filled.{filled-more, kept-more}
-use Rattle.rules.proofs.Combine.{wordwise}
+use Rattle.word8.specs.Width.{W}
+use Rattle.laws.proofs.words.Funnel.{funneled}
+use Rattle.laws.proofs.rows.Filled.{filled-more, kept-more}
+use Rattle.laws.proofs.words.Combine.{wordwise}
 use Rattle.boolean8.proofs.funnel_words.Statement.{statement}
 use Rattle.boolean8.proofs.funnel_words.Tie as tie
 
 abbrev Inv-loop : tie.InvT-loop
-Inv-loop words₀ order operation right head i₀ words i = (i ≤ length words₀) × (length words ≡ length words₀) × ((k : ℕ) → k < i → getD words k 0 ≡ wordwise 8 operation (getD words₀ k 0) (funneled 8 order (head .0) (getD right k 0) (getD right (k + 1) 0)))
+Inv-loop words₀ order operation right head i₀ words i = (i ≤ length words₀) × (length words ≡ length words₀) × ((k : ℕ) → k < i → getD words k 0 ≡ wordwise W operation (getD words₀ k 0) (funneled W order (head .0) (getD right k 0) (getD right (k + 1) 0)))
     × ((k : ℕ) → i ≤ k → getD words k 0 ≡ getD words₀ k 0)
 
 abbrev μ-loop : tie.MeasureT-loop
@@ -55,8 +56,8 @@ loop-again c =
     let i = turn .loop .i in (
       omega arith,
       simp length-set (turn .loop .inv .1),
-      filled-more (turn .loop .words) i (c .apply .result) (λ k. wordwise 8 (a .operation) (getD (now (a .words)) k 0) (funneled 8 (a .order) (a .head .0) (getD (now (a .right)) k 0) (getD (now (a .right)) (k + 1) 0))) (omega arith) (turn .loop .inv .2)
-          (c .apply .ensures ∙ ap₂ (wordwise 8 (a .operation)) (turn .loop .inv .3 i (omega arith)) (c .before .before .joined .ensures)),
+      filled-more (turn .loop .words) i (c .apply .result) (λ k. wordwise W (a .operation) (getD (now (a .words)) k 0) (funneled W (a .order) (a .head .0) (getD (now (a .right)) k 0) (getD (now (a .right)) (k + 1) 0))) (omega arith) (turn .loop .inv .2)
+          (c .apply .ensures ∙ ap₂ (wordwise W (a .operation)) (turn .loop .inv .3 i (omega arith)) (c .before .before .joined .ensures)),
       kept-more (turn .loop .words) i (c .apply .result) (now (a .words)) (turn .loop .inv .3),
     )
 

@@ -5,12 +5,13 @@ use native.Mathlib.Omega.{arith}
 use lib.Dec.{lit<}
 use borrow.Author.Needs.{needs}
 use denote.Ref.{now}
+use Rattle.word8.specs.Width.{W}
 use Rattle.rules.specs.declared.Order.{Order}
 use Rattle.rules.specs.declared.Order.the-variants.{Lsb0, Msb0}
 use Rattle.rules.specs.Positions.{row, spliced}
 use Rattle.rules.specs.Rows.{applied}
-use Rattle.rules.proofs.RowPieces.{none-put}
-use Rattle.rules.proofs.Combine.{piece-carried}
+use Rattle.laws.proofs.rows.Part.{none-put}
+use Rattle.laws.proofs.words.Combine.{piece-carried}
 use Rattle.boolean8.proofs.last_piece.Statement.{statement}
 use Rattle.boolean8.proofs.last_piece.Tie as tie
 
@@ -18,7 +19,7 @@ returns : tie.Need-returns
 returns c =
     let known = c .before .before in
     let a = known .before .args in
-    none-put 8 (lit< tt) (a .order) (now (a .words)) (a .d) (λ i. applied (a .operation) (row 8 (a .order) (now (a .words)) (a .d + i)) (row 8 (a .order) (now (a .right)) (a .s + i))) (a .n) (c .if1 .taken)
+    none-put W (lit< tt) (a .order) (now (a .words)) (a .d) (λ i. applied (a .operation) (row W (a .order) (now (a .words)) (a .d + i)) (row W (a .order) (now (a .right)) (a .s + i))) (a .n) (c .if1 .taken)
     (λ k. known .slice-known .given k .fits)
 
 mul-at : tie.Need-mul-at
@@ -53,8 +54,8 @@ returns-2 c =
     let start = arm .before .before .before .before .before in
     let a = start .args in
     let z = start .pre .0 (omega arith) in
-    piece-carried 8 (lit< tt) Lsb0 (now (a .words)) (a .d / 8 * 8) (a .operation) (λ i. row 8 Lsb0 (now (a .right)) (a .s + i)) (a .n) (at-fetch .fetch .result) (at-fetch .fetch .ensures) (at-piece .piece .ensures)
-    ∙ sym (ap₂ (λ (o : Order) (x : ℕ). spliced 8 o (now (a .words)) x (a .n) (λ i. applied (a .operation) (row 8 o (now (a .words)) (x + i)) (row 8 o (now (a .right)) (a .s + i)))) (arm .enum-told .given .1) (omega (arith, z)))
+    piece-carried W (lit< tt) Lsb0 (now (a .words)) (a .d / W * W) (a .operation) (λ i. row W Lsb0 (now (a .right)) (a .s + i)) (a .n) (at-fetch .fetch .result) (at-fetch .fetch .ensures) (at-piece .piece .ensures)
+    ∙ sym (ap₂ (λ (o : Order) (x : ℕ). spliced W o (now (a .words)) x (a .n) (λ i. applied (a .operation) (row W o (now (a .words)) (x + i)) (row W o (now (a .right)) (a .s + i)))) (arm .enum-told .given .1) (omega (arith, z)))
 
 same-length-2 : tie.Need-same-length-2
 same-length-2 c = search needs
@@ -67,8 +68,8 @@ returns-3 c =
     let start = arm .before .before .before .before .before in
     let a = start .args in
     let z = start .pre .0 (omega arith) in
-    piece-carried 8 (lit< tt) Msb0 (now (a .words)) (a .d / 8 * 8) (a .operation) (λ i. row 8 Msb0 (now (a .right)) (a .s + i)) (a .n) (at-fetch .fetch2 .result) (at-fetch .fetch2 .ensures) (at-piece .piece2 .ensures)
-    ∙ sym (ap₂ (λ (o : Order) (x : ℕ). spliced 8 o (now (a .words)) x (a .n) (λ i. applied (a .operation) (row 8 o (now (a .words)) (x + i)) (row 8 o (now (a .right)) (a .s + i)))) (arm .enum-told2 .given .1) (omega (arith, z)))
+    piece-carried W (lit< tt) Msb0 (now (a .words)) (a .d / W * W) (a .operation) (λ i. row W Msb0 (now (a .right)) (a .s + i)) (a .n) (at-fetch .fetch2 .result) (at-fetch .fetch2 .ensures) (at-piece .piece2 .ensures)
+    ∙ sym (ap₂ (λ (o : Order) (x : ℕ). spliced W o (now (a .words)) x (a .n) (λ i. applied (a .operation) (row W o (now (a .words)) (x + i)) (row W o (now (a .right)) (a .s + i)))) (arm .enum-told2 .given .1) (omega (arith, z)))
 
 pub last-piece-spec : {M : Type 1} → statement M
 last-piece-spec =

@@ -5,9 +5,10 @@ use native.Mathlib.Omega.{arith}
 use lib.Dec.{lit<}
 use borrow.Author.Needs.{needs}
 use denote.Ref.{now}
+use Rattle.word8.specs.Width.{W}
 use Rattle.rules.specs.Bits.{bitN}
 use Rattle.rules.specs.Positions.{position}
-use Rattle.rules.proofs.Combine.{piece-combined}
+use Rattle.laws.proofs.words.Combine.{piece-combined}
 use Rattle.boolean8.proofs.piece.Statement.{statement}
 use Rattle.boolean8.proofs.piece.Tie as tie
 
@@ -28,8 +29,15 @@ returns c =
     let at-put = c .before .before in
     let at-apply = at-put .before .before in
     let a = at-apply .before .before .before .args in
-    piece-combined 8 (lit< tt) (a .order) (now (a .words)) (a .d) (a .operation) (λ i. bitN (a .v) (position 8 (a .order) (a .d % 8 + i))) (a .n) (a .v) (at-apply .apply .result) (omega arith)
+    piece-combined W (lit< tt) (a .order) (now (a .words)) (a .d) (a .operation) (λ i. bitN (a .v) (position W (a .order) (a .d % W + i))) (a .n) (a .v) (at-apply .apply .result) (omega arith)
     (at-apply .apply .ensures) (λ i l. refl) (at-put .put .ensures)
 
 pub piece-spec : {M : Type 1} → statement M
-piece-spec = tie.close (tie.spec slice-read-apply apply-requires put-requires same-length returns)
+piece-spec =
+    tie.close
+    (tie.spec
+    slice-read-apply
+    apply-requires
+    put-requires
+    same-length
+    returns)

@@ -4,7 +4,8 @@ use Prim.Native.Nat.{ℕ}
 use lib.ListN.{getD}
 use borrow.Author.Needs.{needs}
 use denote.Ref.{now}
-use Rattle.rules.proofs.Combine.{wordwise}
+use Rattle.word8.specs.Width.{W}
+use Rattle.laws.proofs.words.Combine.{wordwise}
 use Rattle.boolean8.proofs.plain_cases.Statement.{statement}
 use Rattle.boolean8.proofs.plain_cases.Tie as tie
 
@@ -29,7 +30,7 @@ returns c =
     let arm = call .before .before in
     let a = arm .before .before .before .args in
     λ k l. call .plain-words .ensures k l
-    ∙ ap (λ (x : ℕ). wordwise 8 x (getD (now (a .words)) k 0) (getD (now (a .right)) k 0)) (sym (arm .match .keys1))
+    ∙ ap (λ (x : ℕ). wordwise W x (getD (now (a .words)) k 0) (getD (now (a .right)) k 0)) (sym (arm .match .keys1))
 
 same-length-2 : tie.Need-same-length-2
 same-length-2 c = search needs
@@ -40,7 +41,7 @@ returns-2 c =
     let arm = call .before .before in
     let a = arm .before .before .before .args in
     λ k l. call .plain-words2 .ensures k l
-    ∙ ap (λ (x : ℕ). wordwise 8 x (getD (now (a .words)) k 0) (getD (now (a .right)) k 0)) (sym (arm .match .keys2))
+    ∙ ap (λ (x : ℕ). wordwise W x (getD (now (a .words)) k 0) (getD (now (a .right)) k 0)) (sym (arm .match .keys2))
 
 same-length-3 : tie.Need-same-length-3
 same-length-3 c = search needs
@@ -51,7 +52,7 @@ returns-3 c =
     let arm = call .before .before in
     let a = arm .before .before .before .args in
     λ k l. call .plain-words3 .ensures k l
-    ∙ ap (λ (x : ℕ). wordwise 8 x (getD (now (a .words)) k 0) (getD (now (a .right)) k 0)) (sym (arm .match .keys3))
+    ∙ ap (λ (x : ℕ). wordwise W x (getD (now (a .words)) k 0) (getD (now (a .right)) k 0)) (sym (arm .match .keys3))
 
 same-length-4 : tie.Need-same-length-4
 same-length-4 c = search needs

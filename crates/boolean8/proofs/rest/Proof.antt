@@ -5,10 +5,11 @@ use native.Mathlib.Omega.{arith}
 use lib.Dec.{lit<}
 use borrow.Author.Needs.{needs}
 use denote.Ref.{now}
+use Rattle.word8.specs.Width.{W}
 use Rattle.rules.specs.Positions.{row}
 use Rattle.rules.specs.Rows.{applied}
-use Rattle.rules.proofs.RowPieces.{none-put, last-fits}
-use Rattle.rules.proofs.Combine.{combined-on}
+use Rattle.laws.proofs.rows.Part.{none-put, last-fits}
+use Rattle.laws.proofs.words.Combine.{combined-on}
 use Rattle.boolean8.proofs.rest.Statement.{statement}
 use Rattle.boolean8.proofs.rest.Tie as tie
 
@@ -16,7 +17,7 @@ returns : tie.Need-returns
 returns c =
     let known = c .before in
     let a = known .before .args in
-    none-put 8 (lit< tt) (a .order) (now (a .words)) (a .d) (λ i. applied (a .operation) (row 8 (a .order) (now (a .words)) (a .d + i)) 0) (a .len) (c .if1 .taken) (λ k. known .slice-known .given k .fits)
+    none-put W (lit< tt) (a .order) (now (a .words)) (a .d) (λ i. applied (a .operation) (row W (a .order) (now (a .words)) (a .d + i)) 0) (a .len) (c .if1 .taken) (λ k. known .slice-known .given k .fits)
 
 lead-requires : tie.Need-lead-requires
 lead-requires c κs = search needs
@@ -51,7 +52,7 @@ none-piece-requires-2 : tie.Need-none-piece-requires-2
 none-piece-requires-2 c κs =
     let at-lead = c .before .before .before .before .before .before .before .before .before in
     let a = at-lead .before .before .before .args in
-    (last-fits 8 (lit< tt) (a .d) (at-lead .lead .result) (a .len) (at-lead .lead .ensures .2) (omega arith), omega arith)
+    (last-fits W (lit< tt) (a .d) (at-lead .lead .result) (a .len) (at-lead .lead .ensures .2) (omega arith), omega arith)
 
 same-length : tie.Need-same-length
 same-length c = search needs
@@ -64,9 +65,9 @@ returns-2 c =
     let at-lead = one .before .before in
     let a = at-lead .before .before .before .args in
     let r = at-lead .lead .result in
-    let k = (a .len - r) / 8 in
-    combined-on 8 (lit< tt) (a .order) (now (a .words)) (a .d) (a .operation) (λ _. 0) (r + k * 8) (a .len - (r + k * 8)) (a .len) (λ _. 0) (omega arith) (omega arith)
-    (combined-on 8 (lit< tt) (a .order) (now (a .words)) (a .d) (a .operation) (λ _. 0) r (k * 8) (r + k * 8) (λ _. 0) refl (omega arith) (one .none-piece .ensures) (second .rest-whole .ensures) (λ j l. refl))
+    let k = (a .len - r) / W in
+    combined-on W (lit< tt) (a .order) (now (a .words)) (a .d) (a .operation) (λ _. 0) (r + k * W) (a .len - (r + k * W)) (a .len) (λ _. 0) (omega arith) (omega arith)
+    (combined-on W (lit< tt) (a .order) (now (a .words)) (a .d) (a .operation) (λ _. 0) r (k * W) (r + k * W) (λ _. 0) refl (omega arith) (one .none-piece .ensures) (second .rest-whole .ensures) (λ j l. refl))
     (third .none-piece2 .ensures) (λ j l. refl)
 
 pub rest-spec : {M : Type 1} → statement M

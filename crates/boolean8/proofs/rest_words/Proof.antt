@@ -5,13 +5,14 @@ use native.Mathlib.Omega.{arith}
 use lib.ListN.{length, getD, length-set}
 use borrow.Author.Count.{below-none}
 use denote.Ref.{now}
-use Rattle.rules.proofs.Filled.{filled-more, kept-more}
-use Rattle.rules.proofs.Combine.{wordwise}
+use Rattle.word8.specs.Width.{W}
+use Rattle.laws.proofs.rows.Filled.{filled-more, kept-more}
+use Rattle.laws.proofs.words.Combine.{wordwise}
 use Rattle.boolean8.proofs.rest_words.Statement.{statement}
 use Rattle.boolean8.proofs.rest_words.Tie as tie
 
 abbrev Inv-loop : tie.InvT-loop
-Inv-loop words₀ operation i₀ words i = (i ≤ length words₀) × (length words ≡ length words₀) × ((k : ℕ) → k < i → getD words k 0 ≡ wordwise 8 operation (getD words₀ k 0) 0)
+Inv-loop words₀ operation i₀ words i = (i ≤ length words₀) × (length words ≡ length words₀) × ((k : ℕ) → k < i → getD words k 0 ≡ wordwise W operation (getD words₀ k 0) 0)
     × ((k : ℕ) → i ≤ k → getD words k 0 ≡ getD words₀ k 0)
 
 abbrev μ-loop : tie.MeasureT-loop
@@ -42,8 +43,8 @@ loop-again c =
     let i = turn .loop .i in (
       omega arith,
       simp length-set (turn .loop .inv .1),
-      filled-more (turn .loop .words) i (c .apply .result) (λ k. wordwise 8 (a .operation) (getD (now (a .words)) k 0) 0) (omega arith) (turn .loop .inv .2)
-          (c .apply .ensures ∙ ap (λ (x : ℕ). wordwise 8 (a .operation) x 0) (turn .loop .inv .3 i (omega arith))),
+      filled-more (turn .loop .words) i (c .apply .result) (λ k. wordwise W (a .operation) (getD (now (a .words)) k 0) 0) (omega arith) (turn .loop .inv .2)
+          (c .apply .ensures ∙ ap (λ (x : ℕ). wordwise W (a .operation) x 0) (turn .loop .inv .3 i (omega arith))),
       kept-more (turn .loop .words) i (c .apply .result) (now (a .words)) (turn .loop .inv .3),
     )
 

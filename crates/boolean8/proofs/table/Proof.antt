@@ -1,6 +1,7 @@
 -- `boolean8::table` picks for each pair of bits one of the four of the truth table.
 use borrow.Author.Needs.{needs}
-use Rattle.rules.proofs.Combine.{table-word}
+use Rattle.word8.specs.Width.{W}
+use Rattle.laws.proofs.words.Combine.{table-word}
 use Rattle.boolean8.proofs.table.Statement.{statement}
 use Rattle.boolean8.proofs.table.Tie as tie
 
@@ -34,7 +35,7 @@ returns c =
     let one = two .before in
     let none = one .before in
     let a = none .before .args in
-    table-word 8 (a .operation) (a .a) (a .b) (none .spread .result) (one .spread2 .result) (two .spread3 .result) (three .spread4 .result) (low .choose .result) (high .choose2 .result)
+    table-word W (a .operation) (a .a) (a .b) (none .spread .result) (one .spread2 .result) (two .spread3 .result) (three .spread4 .result) (low .choose .result) (high .choose2 .result)
     (none .spread .ensures) (one .spread2 .ensures) (two .spread3 .ensures) (three .spread4 .ensures) (low .choose .ensures) (high .choose2 .ensures) (c .choose3 .ensures)
 
 pub table-spec : {M : Type 1} → statement M

@@ -4,9 +4,10 @@ use Prim.Native.Nat.{_+_, _%_}
 use lib.Dec.{lit<}
 use borrow.Author.Needs.{needs}
 use denote.Ref.{now}
+use Rattle.word64.specs.Width.{W}
 use Rattle.rules.specs.Bits.{bitN}
 use Rattle.rules.specs.Positions.{row, position}
-use Rattle.rules.proofs.Splice.{splice-eq}
+use Rattle.rules.proofs.rows.Splice.{splice-eq}
 use Rattle.copy64.proofs.bits.Statement.{statement}
 use Rattle.copy64.proofs.bits.Tie as tie
 
@@ -25,7 +26,7 @@ returns c =
     let at-fetch = at-put .before .before in
     let a = at-fetch .before .before .before .args in
     at-put .put .ensures
-    ∙ splice-eq 64 (lit< tt) (a .order) (now (a .words)) (a .d) (a .n) (λ i. bitN (at-fetch .fetch .result) (position 64 (a .order) (a .d % 64 + i))) (λ i. row 64 (a .order) (now (a .source)) (a .s + i))
+    ∙ splice-eq W (lit< tt) (a .order) (now (a .words)) (a .d) (a .n) (λ i. bitN (at-fetch .fetch .result) (position W (a .order) (a .d % W + i))) (λ i. row W (a .order) (now (a .source)) (a .s + i))
     (at-fetch .fetch .ensures)
 
 pub bits-spec : {M : Type 1} → statement M

@@ -6,8 +6,9 @@ use native.Mathlib.Omega.{arith}
 use lib.Dec.{lit<}
 use borrow.Author.Needs.{needs}
 use denote.Ref.{now}
+use Rattle.word64.specs.Width.{W}
 use Rattle.rules.specs.Positions.{row}
-use Rattle.rules.proofs.RowPieces.{on-word, grown}
+use Rattle.laws.proofs.rows.Part.{on-word, grown}
 use Rattle.copy64.proofs.copy_row.Statement.{statement}
 use Rattle.copy64.proofs.copy_row.Tie as tie
 
@@ -51,7 +52,7 @@ last-piece-requires c κs =
     let at-lead = c .before .before .before .before .before .before .before .before .before in
     let a = at-lead .before .before .before .args in
     let r = at-lead .lead .result in
-    ((λ h. on-word 64 (a .d) r ((a .len - r) / 64) (at-lead .lead .ensures .2 (omega arith))), omega arith, omega arith, omega arith, omega arith)
+    ((λ h. on-word W (a .d) r ((a .len - r) / W) (at-lead .lead .ensures .2 (omega arith))), omega arith, omega arith, omega arith, omega arith)
 
 same-length : tie.Need-same-length
 same-length c = search needs
@@ -64,12 +65,12 @@ returns c =
     let at-lead = one .before .before in
     let a = at-lead .before .before .before .args in
     let r = at-lead .lead .result in
-    let k = (a .len - r) / 64 in
-    let from : ℕ → ℕ = λ i. row 64 (a .order) (now (a .source)) (a .s + i) in
-    grown 64 (lit< tt) (a .order) (now (a .words)) (a .d) from (r + k * 64) (a .len - (r + k * 64)) (a .len) (λ j. row 64 (a .order) (now (a .source)) (a .s + (r + k * 64) + j)) (omega arith)
-    (grown 64 (lit< tt) (a .order) (now (a .words)) (a .d) from r (k * 64) (r + k * 64) (λ j. row 64 (a .order) (now (a .source)) (a .s + r + j)) refl (one .first-piece .ensures) (second .whole .ensures)
-    (λ j l. ap (row 64 (a .order) (now (a .source))) (add-assoc (a .s) r j)))
-    (third .last-piece .ensures) (λ j l. ap (row 64 (a .order) (now (a .source))) (add-assoc (a .s) (r + k * 64) j))
+    let k = (a .len - r) / W in
+    let from : ℕ → ℕ = λ i. row W (a .order) (now (a .source)) (a .s + i) in
+    grown W (lit< tt) (a .order) (now (a .words)) (a .d) from (r + k * W) (a .len - (r + k * W)) (a .len) (λ j. row W (a .order) (now (a .source)) (a .s + (r + k * W) + j)) (omega arith)
+    (grown W (lit< tt) (a .order) (now (a .words)) (a .d) from r (k * W) (r + k * W) (λ j. row W (a .order) (now (a .source)) (a .s + r + j)) refl (one .first-piece .ensures) (second .whole .ensures)
+    (λ j l. ap (row W (a .order) (now (a .source))) (add-assoc (a .s) r j)))
+    (third .last-piece .ensures) (λ j l. ap (row W (a .order) (now (a .source))) (add-assoc (a .s) (r + k * W) j))
 
 pub copy-row-spec : {M : Type 1} → statement M
 copy-row-spec =

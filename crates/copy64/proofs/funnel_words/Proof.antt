@@ -5,13 +5,14 @@ use native.Mathlib.Omega.{arith}
 use lib.ListN.{length, getD, length-set}
 use borrow.Author.Count.{below-none}
 use denote.Ref.{now}
-use Rattle.rules.proofs.Funnel.{funneled}
-use Rattle.rules.proofs.Filled.{filled-more}
+use Rattle.word64.specs.Width.{W}
+use Rattle.laws.proofs.words.Funnel.{funneled}
+use Rattle.laws.proofs.rows.Filled.{filled-more}
 use Rattle.copy64.proofs.funnel_words.Statement.{statement}
 use Rattle.copy64.proofs.funnel_words.Tie as tie
 
 abbrev Inv-loop : tie.InvT-loop
-Inv-loop words₀ order source head i₀ words i = (i ≤ length words₀) × (length words ≡ length words₀) × ((k : ℕ) → k < i → getD words k 0 ≡ funneled 64 order (head .0) (getD source k 0) (getD source (k + 1) 0))
+Inv-loop words₀ order source head i₀ words i = (i ≤ length words₀) × (length words ≡ length words₀) × ((k : ℕ) → k < i → getD words k 0 ≡ funneled W order (head .0) (getD source k 0) (getD source (k + 1) 0))
 
 abbrev μ-loop : tie.MeasureT-loop
 μ-loop words₀ order source head i₀ words i = length words₀ - i
@@ -19,6 +20,7 @@ abbrev μ-loop : tie.MeasureT-loop
 loop-holds : tie.Need-loop-holds Inv-loop μ-loop
 loop-holds c = (omega arith, refl, below-none _)
 
+-- asked above 8 bits
 mul-joined : tie.Need-mul-joined Inv-loop μ-loop
 mul-joined c = omega arith
 
@@ -28,6 +30,7 @@ shared-slice-read-joined c = omega arith
 add-joined : tie.Need-add-joined Inv-loop μ-loop
 add-joined c = omega arith
 
+-- asked above 8 bits
 mul-joined-2 : tie.Need-mul-joined-2 Inv-loop μ-loop
 mul-joined-2 c = omega arith
 
@@ -37,6 +40,7 @@ shared-slice-read-joined-2 c = omega arith
 joined-requires : tie.Need-joined-requires Inv-loop μ-loop
 joined-requires c κs = omega arith
 
+-- asked above 8 bits
 mul-words : tie.Need-mul-words Inv-loop μ-loop
 mul-words c = omega arith
 
@@ -55,7 +59,7 @@ loop-again c =
     let a = turn .before .before .before .args in (
       omega arith,
       simp length-set (turn .loop .inv .1),
-      filled-more (turn .loop .words) (turn .loop .i) (c .joined .result) (λ k. funneled 64 (a .order) (a .head .0) (getD (now (a .source)) k 0) (getD (now (a .source)) (k + 1) 0)) (omega arith)
+      filled-more (turn .loop .words) (turn .loop .i) (c .joined .result) (λ k. funneled W (a .order) (a .head .0) (getD (now (a .source)) k 0) (getD (now (a .source)) (k + 1) 0)) (omega arith)
           (turn .loop .inv .2) (c .joined .ensures),
     )
 

@@ -5,9 +5,10 @@ use native.Mathlib.Omega.{arith}
 use lib.Dec.{lit<}
 use borrow.Author.Needs.{needs}
 use denote.Ref.{now}
+use Rattle.word64.specs.Width.{W}
 use Rattle.rules.specs.Positions.{row}
-use Rattle.rules.proofs.WholeWords.{mid-length, lent-row, part-plain, part-joined}
-use Rattle.rules.proofs.RowPieces.{none-put}
+use Rattle.laws.proofs.rows.Part.{mid-length, none-put}
+use Rattle.laws.proofs.words.Wholes.{lent-row, part-plain, part-joined}
 use Rattle.copy64.proofs.whole.Statement.{statement}
 use Rattle.copy64.proofs.whole.Tie as tie
 
@@ -15,7 +16,7 @@ returns : tie.Need-returns
 returns c =
     let known = c .before .before in
     let a = known .before .args in
-    none-put 64 (lit< tt) (a .order) (now (a .words)) (a .d) (λ i. row 64 (a .order) (now (a .source)) (a .s + i)) (a .k * 64) (omega arith) (λ k. known .slice-known .given k .fits)
+    none-put W (lit< tt) (a .order) (now (a .words)) (a .d) (λ i. row W (a .order) (now (a .source)) (a .s + i)) (a .k * W) (omega arith) (λ k. known .slice-known .given k .fits)
 
 add-e : tie.Need-add-e
 add-e c = search needs
@@ -23,6 +24,7 @@ add-e c = search needs
 add-f : tie.Need-add-f
 add-f c = search needs
 
+-- asked above 8 bits
 mul-plain-words : tie.Need-mul-plain-words
 mul-plain-words c = search needs
 
@@ -35,6 +37,7 @@ part-plain-words-start c = search needs
 part-plain-words-end : tie.Need-part-plain-words-end
 part-plain-words-end c = search needs
 
+-- asked above 8 bits
 mul-plain-words-2 : tie.Need-mul-plain-words-2
 mul-plain-words-2 c = search needs
 
@@ -58,13 +61,13 @@ returns-2 c =
     let call = c .before .before in
     let known = call .before .before .before .before .before in
     let a = known .before .before .args in
-    let i = a .d / 64 in
-    let b = a .s / 64 in
+    let i = a .d / W in
+    let b = a .s / W in
     let z = known .before .before .pre .0 (omega arith) in
-    lent-row 64 (lit< tt) (a .order) (now (a .words)) (call .plain-words .last .0) i (i + a .k - i) (a .k) (a .d) (omega arith) (omega (arith, z)) (omega arith) (λ k. known .before .slice-known .given k .fits)
+    lent-row W (lit< tt) (a .order) (now (a .words)) (call .plain-words .last .0) i (i + a .k - i) (a .k) (a .d) (omega arith) (omega (arith, z)) (omega arith) (λ k. known .before .slice-known .given k .fits)
     (call .plain-words .kept .0) (now (a .source)) (a .s)
     (λ j l. call .plain-words .ensures j (omega (arith, l, mid-length (now (a .words)) i (i + a .k - i) (a .k) (omega arith) (omega arith)))
-    ∙ part-plain 64 (a .order) (now (a .source)) b (a .s) (λ k. known .shared-slice-known .given k .fits) (omega arith) (b + a .k - b) j (omega arith))
+    ∙ part-plain W (a .order) (now (a .source)) b (a .s) (λ k. known .shared-slice-known .given k .fits) (omega arith) (b + a .k - b) j (omega arith))
 
 add-f-2 : tie.Need-add-f-2
 add-f-2 c = search needs
@@ -72,6 +75,7 @@ add-f-2 c = search needs
 add-f-3 : tie.Need-add-f-3
 add-f-3 c = search needs
 
+-- asked above 8 bits
 mul-funnel-words : tie.Need-mul-funnel-words
 mul-funnel-words c = search needs
 
@@ -84,6 +88,7 @@ part-funnel-words-start c = search needs
 part-funnel-words-end : tie.Need-part-funnel-words-end
 part-funnel-words-end c = search needs
 
+-- asked above 8 bits
 mul-funnel-words-2 : tie.Need-mul-funnel-words-2
 mul-funnel-words-2 c = search needs
 
@@ -107,13 +112,13 @@ returns-3 c =
     let call = c .before .before in
     let known = call .before .before .before .before .before in
     let a = known .before .before .args in
-    let i = a .d / 64 in
-    let b = a .s / 64 in
+    let i = a .d / W in
+    let b = a .s / W in
     let z = known .before .before .pre .0 (omega arith) in
-    lent-row 64 (lit< tt) (a .order) (now (a .words)) (call .funnel-words .last .0) i (i + a .k - i) (a .k) (a .d) (omega arith) (omega (arith, z)) (omega arith) (λ k. known .before .slice-known .given k .fits)
+    lent-row W (lit< tt) (a .order) (now (a .words)) (call .funnel-words .last .0) i (i + a .k - i) (a .k) (a .d) (omega arith) (omega (arith, z)) (omega arith) (λ k. known .before .slice-known .given k .fits)
     (call .funnel-words .kept .0) (now (a .source)) (a .s)
     (λ j l. call .funnel-words .ensures j (omega (arith, l, mid-length (now (a .words)) i (i + a .k - i) (a .k) (omega arith) (omega arith)))
-    ∙ part-joined 64 (a .order) (now (a .source)) b (a .s) (λ k. known .shared-slice-known .given k .fits) (a .s % 64) (omega arith) (omega arith) (b + a .k + 1 - b) j (omega arith))
+    ∙ part-joined W (a .order) (now (a .source)) b (a .s) (λ k. known .shared-slice-known .given k .fits) (a .s % W) (omega arith) (omega arith) (b + a .k + 1 - b) j (omega arith))
 
 pub whole-spec : {M : Type 1} → statement M
 whole-spec =

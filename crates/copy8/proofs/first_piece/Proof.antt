@@ -4,9 +4,10 @@ use Prim.Native.Nat.{_+_}
 use lib.Dec.{lit<}
 use borrow.Author.Needs.{needs}
 use denote.Ref.{now}
+use Rattle.word8.specs.Width.{W}
 use Rattle.rules.specs.declared.Order.{Order}
 use Rattle.rules.specs.Positions.{row, spliced}
-use Rattle.rules.proofs.RowPieces.{none-put}
+use Rattle.laws.proofs.rows.Part.{none-put}
 use Rattle.copy8.proofs.first_piece.Statement.{statement}
 use Rattle.copy8.proofs.first_piece.Tie as tie
 
@@ -14,7 +15,7 @@ returns : tie.Need-returns
 returns c =
     let known = c .before .before in
     let a = known .before .args in
-    none-put 8 (lit< tt) (a .order) (now (a .words)) (a .d) (λ i. row 8 (a .order) (now (a .source)) (a .s + i)) (a .n) (c .if1 .taken) (λ k. known .slice-known .given k .fits)
+    none-put W (lit< tt) (a .order) (now (a .words)) (a .d) (λ i. row W (a .order) (now (a .source)) (a .s + i)) (a .n) (c .if1 .taken) (λ k. known .slice-known .given k .fits)
 
 enum-told : tie.Need-enum-told
 enum-told c = search needs
@@ -36,7 +37,7 @@ returns-2 c =
     let call = c .before .before in
     let arm = call .before .before in
     let a = arm .before .before .before .before .before .args in
-    call .bits .ensures ∙ sym (ap (λ (o : Order). spliced 8 o (now (a .words)) (a .d) (a .n) (λ i. row 8 o (now (a .source)) (a .s + i))) (arm .enum-told .given .1))
+    call .bits .ensures ∙ sym (ap (λ (o : Order). spliced W o (now (a .words)) (a .d) (a .n) (λ i. row W o (now (a .source)) (a .s + i))) (arm .enum-told .given .1))
 
 same-length-2 : tie.Need-same-length-2
 same-length-2 c = search needs
@@ -46,7 +47,7 @@ returns-3 c =
     let call = c .before .before in
     let arm = call .before .before in
     let a = arm .before .before .before .before .before .args in
-    call .bits2 .ensures ∙ sym (ap (λ (o : Order). spliced 8 o (now (a .words)) (a .d) (a .n) (λ i. row 8 o (now (a .source)) (a .s + i))) (arm .enum-told2 .given .1))
+    call .bits2 .ensures ∙ sym (ap (λ (o : Order). spliced W o (now (a .words)) (a .d) (a .n) (λ i. row W o (now (a .source)) (a .s + i))) (arm .enum-told2 .given .1))
 
 pub first-piece-spec : {M : Type 1} → statement M
 first-piece-spec =

@@ -5,13 +5,14 @@ use native.Mathlib.Omega.{arith}
 use lib.ListN.{length, getD, length-set}
 use borrow.Author.Count.{below-none}
 use denote.Ref.{now}
-use Rattle.rules.proofs.Funnel.{funneled}
-use Rattle.rules.proofs.Filled.{filled-more}
+use Rattle.word8.specs.Width.{W}
+use Rattle.laws.proofs.words.Funnel.{funneled}
+use Rattle.laws.proofs.rows.Filled.{filled-more}
 use Rattle.copy8.proofs.funnel_words.Statement.{statement}
 use Rattle.copy8.proofs.funnel_words.Tie as tie
 
 abbrev Inv-loop : tie.InvT-loop
-Inv-loop words₀ order source head i₀ words i = (i ≤ length words₀) × (length words ≡ length words₀) × ((k : ℕ) → k < i → getD words k 0 ≡ funneled 8 order (head .0) (getD source k 0) (getD source (k + 1) 0))
+Inv-loop words₀ order source head i₀ words i = (i ≤ length words₀) × (length words ≡ length words₀) × ((k : ℕ) → k < i → getD words k 0 ≡ funneled W order (head .0) (getD source k 0) (getD source (k + 1) 0))
 
 abbrev μ-loop : tie.MeasureT-loop
 μ-loop words₀ order source head i₀ words i = length words₀ - i
@@ -46,7 +47,7 @@ loop-again c =
     let a = turn .before .before .before .args in (
       omega arith,
       simp length-set (turn .loop .inv .1),
-      filled-more (turn .loop .words) (turn .loop .i) (c .joined .result) (λ k. funneled 8 (a .order) (a .head .0) (getD (now (a .source)) k 0) (getD (now (a .source)) (k + 1) 0)) (omega arith)
+      filled-more (turn .loop .words) (turn .loop .i) (c .joined .result) (λ k. funneled W (a .order) (a .head .0) (getD (now (a .source)) k 0) (getD (now (a .source)) (k + 1) 0)) (omega arith)
           (turn .loop .inv .2) (c .joined .ensures),
     )
 

@@ -5,9 +5,10 @@ use native.Mathlib.Omega.{arith}
 use lib.Dec.{lit<}
 use borrow.Author.Needs.{needs}
 use denote.Ref.{now}
+use Rattle.word8.specs.Width.{W}
 use Rattle.rules.specs.declared.Order.{Order}
 use Rattle.rules.specs.Positions.{row, spliced}
-use Rattle.rules.proofs.RowPieces.{none-put}
+use Rattle.laws.proofs.rows.Part.{none-put}
 use Rattle.copy8.proofs.last_piece.Statement.{statement}
 use Rattle.copy8.proofs.last_piece.Tie as tie
 
@@ -15,7 +16,7 @@ returns : tie.Need-returns
 returns c =
     let known = c .before .before in
     let a = known .before .args in
-    none-put 8 (lit< tt) (a .order) (now (a .words)) (a .d) (λ i. row 8 (a .order) (now (a .source)) (a .s + i)) (a .n) (c .if1 .taken) (λ k. known .slice-known .given k .fits)
+    none-put W (lit< tt) (a .order) (now (a .words)) (a .d) (λ i. row W (a .order) (now (a .source)) (a .s + i)) (a .n) (c .if1 .taken) (λ k. known .slice-known .given k .fits)
 
 mul-at : tie.Need-mul-at
 mul-at c = search needs
@@ -42,7 +43,7 @@ returns-2 c =
     let start = arm .before .before .before .before .before in
     let a = start .args in
     let z = start .pre .0 (omega arith) in
-    call .bits .ensures ∙ sym (ap₂ (λ (o : Order) (x : ℕ). spliced 8 o (now (a .words)) x (a .n) (λ i. row 8 o (now (a .source)) (a .s + i))) (arm .enum-told .given .1) (omega (arith, z)))
+    call .bits .ensures ∙ sym (ap₂ (λ (o : Order) (x : ℕ). spliced W o (now (a .words)) x (a .n) (λ i. row W o (now (a .source)) (a .s + i))) (arm .enum-told .given .1) (omega (arith, z)))
 
 same-length-2 : tie.Need-same-length-2
 same-length-2 c = search needs
@@ -54,7 +55,7 @@ returns-3 c =
     let start = arm .before .before .before .before .before in
     let a = start .args in
     let z = start .pre .0 (omega arith) in
-    call .bits2 .ensures ∙ sym (ap₂ (λ (o : Order) (x : ℕ). spliced 8 o (now (a .words)) x (a .n) (λ i. row 8 o (now (a .source)) (a .s + i))) (arm .enum-told2 .given .1) (omega (arith, z)))
+    call .bits2 .ensures ∙ sym (ap₂ (λ (o : Order) (x : ℕ). spliced W o (now (a .words)) x (a .n) (λ i. row W o (now (a .source)) (a .s + i))) (arm .enum-told2 .given .1) (omega (arith, z)))
 
 pub last-piece-spec : {M : Type 1} → statement M
 last-piece-spec =

@@ -5,7 +5,7 @@ use native.Mathlib.Omega.{arith}
 use lib.ListN.{length, getD, length-set}
 use borrow.Author.Count.{below-none}
 use denote.Ref.{now}
-use Rattle.rules.proofs.Filled.{filled-more}
+use Rattle.laws.proofs.rows.Filled.{filled-more}
 use Rattle.copy8.proofs.plain_words.Statement.{statement}
 use Rattle.copy8.proofs.plain_words.Tie as tie
 

@@ -5,9 +5,10 @@ use native.Mathlib.Omega.{arith}
 use lib.Dec.{lit<}
 use borrow.Author.Needs.{needs}
 use denote.Ref.{now}
+use Rattle.word8.specs.Width.{W}
 use Rattle.rules.specs.Positions.{row}
-use Rattle.rules.proofs.WholeWords.{mid-length, lent-row, part-plain, part-joined}
-use Rattle.rules.proofs.RowPieces.{none-put}
+use Rattle.laws.proofs.rows.Part.{mid-length, none-put}
+use Rattle.laws.proofs.words.Wholes.{lent-row, part-plain, part-joined}
 use Rattle.copy8.proofs.whole.Statement.{statement}
 use Rattle.copy8.proofs.whole.Tie as tie
 
@@ -15,7 +16,7 @@ returns : tie.Need-returns
 returns c =
     let known = c .before .before in
     let a = known .before .args in
-    none-put 8 (lit< tt) (a .order) (now (a .words)) (a .d) (λ i. row 8 (a .order) (now (a .source)) (a .s + i)) (a .k * 8) (omega arith) (λ k. known .slice-known .given k .fits)
+    none-put W (lit< tt) (a .order) (now (a .words)) (a .d) (λ i. row W (a .order) (now (a .source)) (a .s + i)) (a .k * W) (omega arith) (λ k. known .slice-known .given k .fits)
 
 add-e : tie.Need-add-e
 add-e c = search needs
@@ -52,13 +53,13 @@ returns-2 c =
     let call = c .before .before in
     let known = call .before .before .before .before .before in
     let a = known .before .before .args in
-    let i = a .d / 8 in
-    let b = a .s / 8 in
+    let i = a .d / W in
+    let b = a .s / W in
     let z = known .before .before .pre .0 (omega arith) in
-    lent-row 8 (lit< tt) (a .order) (now (a .words)) (call .plain-words .last .0) i (i + a .k - i) (a .k) (a .d) (omega arith) (omega (arith, z)) (omega arith) (λ k. known .before .slice-known .given k .fits)
+    lent-row W (lit< tt) (a .order) (now (a .words)) (call .plain-words .last .0) i (i + a .k - i) (a .k) (a .d) (omega arith) (omega (arith, z)) (omega arith) (λ k. known .before .slice-known .given k .fits)
     (call .plain-words .kept .0) (now (a .source)) (a .s)
     (λ j l. call .plain-words .ensures j (omega (arith, l, mid-length (now (a .words)) i (i + a .k - i) (a .k) (omega arith) (omega arith)))
-    ∙ part-plain 8 (a .order) (now (a .source)) b (a .s) (λ k. known .shared-slice-known .given k .fits) (omega arith) (b + a .k - b) j (omega arith))
+    ∙ part-plain W (a .order) (now (a .source)) b (a .s) (λ k. known .shared-slice-known .given k .fits) (omega arith) (b + a .k - b) j (omega arith))
 
 add-f-2 : tie.Need-add-f-2
 add-f-2 c = search needs
@@ -95,13 +96,13 @@ returns-3 c =
     let call = c .before .before in
     let known = call .before .before .before .before .before in
     let a = known .before .before .args in
-    let i = a .d / 8 in
-    let b = a .s / 8 in
+    let i = a .d / W in
+    let b = a .s / W in
     let z = known .before .before .pre .0 (omega arith) in
-    lent-row 8 (lit< tt) (a .order) (now (a .words)) (call .funnel-words .last .0) i (i + a .k - i) (a .k) (a .d) (omega arith) (omega (arith, z)) (omega arith) (λ k. known .before .slice-known .given k .fits)
+    lent-row W (lit< tt) (a .order) (now (a .words)) (call .funnel-words .last .0) i (i + a .k - i) (a .k) (a .d) (omega arith) (omega (arith, z)) (omega arith) (λ k. known .before .slice-known .given k .fits)
     (call .funnel-words .kept .0) (now (a .source)) (a .s)
     (λ j l. call .funnel-words .ensures j (omega (arith, l, mid-length (now (a .words)) i (i + a .k - i) (a .k) (omega arith) (omega arith)))
-    ∙ part-joined 8 (a .order) (now (a .source)) b (a .s) (λ k. known .shared-slice-known .given k .fits) (a .s % 8) (omega arith) (omega arith) (b + a .k + 1 - b) j (omega arith))
+    ∙ part-joined W (a .order) (now (a .source)) b (a .s) (λ k. known .shared-slice-known .given k .fits) (a .s % W) (omega arith) (omega arith) (b + a .k + 1 - b) j (omega arith))
 
 pub whole-spec : {M : Type 1} → statement M
 whole-spec =

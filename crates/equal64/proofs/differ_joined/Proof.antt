@@ -4,13 +4,14 @@ use Prim.Native.Nat.{ℕ, _+_, _-_, _≤_}
 use native.Mathlib.Omega.{arith}
 use lib.ListN.{getD}
 use denote.Ref.{now}
-use Rattle.rules.proofs.Funnel.{funneled}
-use Rattle.rules.proofs.Agree.{Differs, differs-none, differs-more}
+use Rattle.word64.specs.Width.{W}
+use Rattle.laws.proofs.words.Funnel.{funneled}
+use Rattle.laws.proofs.words.Agree.{Differs, differs-none, differs-more}
 use Rattle.equal64.proofs.differ_joined.Statement.{statement}
 use Rattle.equal64.proofs.differ_joined.Tie as tie
 
 abbrev Inv-loop : tie.InvT-loop
-Inv-loop left a n order right b head v₀ i₀ v i = (i ≤ n) × Differs v i (λ j. getD left (a + j) 0) (λ j. funneled 64 order (head .0) (getD right (b + j) 0) (getD right (b + j + 1) 0))
+Inv-loop left a n order right b head v₀ i₀ v i = (i ≤ n) × Differs v i (λ j. getD left (a + j) 0) (λ j. funneled W order (head .0) (getD right (b + j) 0) (getD right (b + j + 1) 0))
 
 abbrev μ-loop : tie.MeasureT-loop
 μ-loop left a n order right b head v₀ i₀ v i = n - i
@@ -21,6 +22,7 @@ loop-holds c = (omega arith, differs-none _ _)
 add-joined : tie.Need-add-joined Inv-loop μ-loop
 add-joined c = omega arith
 
+-- asked above 8 bits
 mul-joined : tie.Need-mul-joined Inv-loop μ-loop
 mul-joined c = omega arith
 
@@ -33,6 +35,7 @@ add-joined-2 c = omega arith
 add-joined-3 : tie.Need-add-joined-3 Inv-loop μ-loop
 add-joined-3 c = omega arith
 
+-- asked above 8 bits
 mul-joined-2 : tie.Need-mul-joined-2 Inv-loop μ-loop
 mul-joined-2 c = omega arith
 
@@ -45,6 +48,7 @@ joined-requires c κs = omega arith
 add-v : tie.Need-add-v Inv-loop μ-loop
 add-v c = omega arith
 
+-- asked above 8 bits
 mul-v : tie.Need-mul-v Inv-loop μ-loop
 mul-v c = omega arith
 
@@ -61,14 +65,14 @@ loop-again : tie.Need-loop-again Inv-loop μ-loop
 loop-again c =
     let turn = c .before .before .before .before .before in
     let a = turn .before .before .before .args in
-    (omega arith, differs-more (turn .loop .v) (turn .loop .i) _ _ (λ j. getD (now (a .left)) (a .a + j) 0) (λ j. funneled 64 (a .order) (a .head .0) (getD (now (a .right)) (a .b + j) 0) (getD (now (a .right)) (a .b + j + 1) 0)) refl (c .before .joined .ensures) (turn .loop .inv .1))
+    (omega arith, differs-more (turn .loop .v) (turn .loop .i) _ _ (λ j. getD (now (a .left)) (a .a + j) 0) (λ j. funneled W (a .order) (a .head .0) (getD (now (a .right)) (a .b + j) 0) (getD (now (a .right)) (a .b + j + 1) 0)) refl (c .before .joined .ensures) (turn .loop .inv .1))
 
 returns : tie.Need-returns Inv-loop μ-loop
 returns c =
     let turn = c .before in
     let a = turn .before .before .before .args in
     let e : turn .loop .i ≡ a .n = omega arith in
-    subst (λ (i : ℕ). Differs (turn .loop .v) i (λ j. getD (now (a .left)) (a .a + j) 0) (λ j. funneled 64 (a .order) (a .head .0) (getD (now (a .right)) (a .b + j) 0) (getD (now (a .right)) (a .b + j + 1) 0))) e (turn .loop .inv .1)
+    subst (λ (i : ℕ). Differs (turn .loop .v) i (λ j. getD (now (a .left)) (a .a + j) 0) (λ j. funneled W (a .order) (a .head .0) (getD (now (a .right)) (a .b + j) 0) (getD (now (a .right)) (a .b + j + 1) 0))) e (turn .loop .inv .1)
 
 pub differ-joined-spec : {M : Type 1} → statement M
 differ-joined-spec =

@@ -3,7 +3,8 @@ use native.Mathlib.Omega.{arith}
 use lib.Dec.{lit<}
 use borrow.Author.Needs.{needs}
 use denote.Ref.{now}
-use Rattle.rules.proofs.Agree.{piece-differs}
+use Rattle.word64.specs.Width.{W}
+use Rattle.laws.proofs.words.Agree.{piece-differs}
 use Rattle.equal64.proofs.differ_piece.Statement.{statement}
 use Rattle.equal64.proofs.differ_piece.Tie as tie
 
@@ -16,6 +17,7 @@ fetch-requires c κs = search needs
 mask-requires : tie.Need-mask-requires
 mask-requires c κs = search needs
 
+-- asked above 8 bits
 mul-x : tie.Need-mul-x
 mul-x c = search needs
 
@@ -32,10 +34,17 @@ returns-2 c =
     let at-fetch = at-mask .before in
     let a = at-fetch .before .before .before .before .args in
     rw (c .under .ensures)
-    (piece-differs 64 (lit< tt) (a .order) (now (a .left)) (now (a .right)) (a .p) (a .q) (a .n) (at-fetch .fetch .result) (at-mask .mask .result .0) (omega arith)
+    (piece-differs W (lit< tt) (a .order) (now (a .left)) (now (a .right)) (a .p) (a .q) (a .n) (at-fetch .fetch .result) (at-mask .mask .result .0) (omega arith)
     (λ k. known .shared-slice-known3 .given k .fits) (search needs) (at-fetch .fetch .ensures) (at-mask .mask .ensures))
 
 pub differ-piece-spec : {M : Type 1} → statement M
 differ-piece-spec =
     tie.close
-    (tie.spec returns fetch-requires mask-requires mul-x shared-slice-read-x under-requires returns-2)
+    (tie.spec
+    returns
+    fetch-requires
+    mask-requires
+    mul-x
+    shared-slice-read-x
+    under-requires
+    returns-2)

@@ -4,7 +4,7 @@ use Prim.Native.Nat.{ℕ, _+_, _-_, _≤_}
 use native.Mathlib.Omega.{arith}
 use lib.ListN.{getD}
 use denote.Ref.{now}
-use Rattle.rules.proofs.Agree.{Differs, differs-none, differs-more}
+use Rattle.laws.proofs.words.Agree.{Differs, differs-none, differs-more}
 use Rattle.equal64.proofs.differ_plain.Statement.{statement}
 use Rattle.equal64.proofs.differ_plain.Tie as tie
 
@@ -20,6 +20,7 @@ loop-holds c = (omega arith, differs-none _ _)
 add-v : tie.Need-add-v Inv-loop μ-loop
 add-v c = omega arith
 
+-- asked above 8 bits
 mul-v : tie.Need-mul-v Inv-loop μ-loop
 mul-v c = omega arith
 
@@ -29,6 +30,7 @@ shared-slice-read-v c = omega arith
 add-v-2 : tie.Need-add-v-2 Inv-loop μ-loop
 add-v-2 c = omega arith
 
+-- asked above 8 bits
 mul-v-2 : tie.Need-mul-v-2 Inv-loop μ-loop
 mul-v-2 c = omega arith
 

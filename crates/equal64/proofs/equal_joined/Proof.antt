@@ -5,13 +5,14 @@ use native.Mathlib.Nat.{add-assoc}
 use native.Mathlib.Omega.{arith}
 use lib.ListN.{getD}
 use denote.Ref.{now}
-use Rattle.rules.proofs.Funnel.{funneled}
-use Rattle.rules.proofs.Agree.{Agree, agree-on, agree-off, tells-no, tells-zero, differs-on}
+use Rattle.word64.specs.Width.{W}
+use Rattle.laws.proofs.words.Funnel.{funneled}
+use Rattle.laws.proofs.words.Agree.{Agree, agree-on, agree-off, tells-no, tells-zero, differs-on}
 use Rattle.equal64.proofs.equal_joined.Statement.{statement}
 use Rattle.equal64.proofs.equal_joined.Tie as tie
 
 abbrev Inv-loop : tie.InvT-loop
-Inv-loop left a k order right b head i₀ i = (i ≤ k) × Agree i (λ j. getD left (a + j) 0) (λ j. funneled 64 order (head .0) (getD right (b + j) 0) (getD right (b + j + 1) 0))
+Inv-loop left a k order right b head i₀ i = (i ≤ k) × Agree i (λ j. getD left (a + j) 0) (λ j. funneled W order (head .0) (getD right (b + j) 0) (getD right (b + j + 1) 0))
 
 abbrev μ-loop : tie.MeasureT-loop
 μ-loop left a k order right b head i₀ i = k - i
@@ -37,9 +38,9 @@ returns c =
     let turn = call .before .before in
     let a = turn .before .before .before .args in
     let i = turn .loop .i in
-    tells-no (a .k) (λ j. getD (now (a .left)) (a .a + j) 0) (λ j. funneled 64 (a .order) (a .head .0) (getD (now (a .right)) (a .b + j) 0) (getD (now (a .right)) (a .b + j + 1) 0))
+    tells-no (a .k) (λ j. getD (now (a .left)) (a .a + j) 0) (λ j. funneled W (a .order) (a .head .0) (getD (now (a .right)) (a .b + j) 0) (getD (now (a .right)) (a .b + j + 1) 0))
     (λ all. c .if1 .taken (call .differ-joined .ensures .all-none
-    (agree-off i 64 (a .k) (λ j. getD (now (a .left)) (a .a + j) 0) (λ j. funneled 64 (a .order) (a .head .0) (getD (now (a .right)) (a .b + j) 0) (getD (now (a .right)) (a .b + j + 1) 0)) (λ j. getD (now (a .left)) (a .a + i + j) 0) (λ j. funneled 64 (a .order) (a .head .0) (getD (now (a .right)) (a .b + i + j) 0) (getD (now (a .right)) (a .b + i + j + 1) 0)) (λ j l. ap (λ (x : ℕ). getD (now (a .left)) x 0) (add-assoc (a .a) i j)) (λ j l. ap (λ (x : ℕ). funneled 64 (a .order) (a .head .0) (getD (now (a .right)) x 0) (getD (now (a .right)) (x + 1) 0)) (add-assoc (a .b) i j)) (omega arith) all)))
+    (agree-off i _ (a .k) (λ j. getD (now (a .left)) (a .a + j) 0) (λ j. funneled W (a .order) (a .head .0) (getD (now (a .right)) (a .b + j) 0) (getD (now (a .right)) (a .b + j + 1) 0)) (λ j. getD (now (a .left)) (a .a + i + j) 0) (λ j. funneled W (a .order) (a .head .0) (getD (now (a .right)) (a .b + i + j) 0) (getD (now (a .right)) (a .b + i + j + 1) 0)) (λ j l. ap (λ (x : ℕ). getD (now (a .left)) x 0) (add-assoc (a .a) i j)) (λ j l. ap (λ (x : ℕ). funneled W (a .order) (a .head .0) (getD (now (a .right)) x 0) (getD (now (a .right)) (x + 1) 0)) (add-assoc (a .b) i j)) (omega arith) all)))
 
 add-i : tie.Need-add-i Inv-loop μ-loop
 add-i c = omega arith
@@ -54,7 +55,7 @@ loop-again c =
     let a = turn .before .before .before .args in
     let i = turn .loop .i in (
       omega arith,
-      agree-on i 64 (i + 64) (λ j. getD (now (a .left)) (a .a + j) 0) (λ j. funneled 64 (a .order) (a .head .0) (getD (now (a .right)) (a .b + j) 0) (getD (now (a .right)) (a .b + j + 1) 0)) (λ j. getD (now (a .left)) (a .a + i + j) 0) (λ j. funneled 64 (a .order) (a .head .0) (getD (now (a .right)) (a .b + i + j) 0) (getD (now (a .right)) (a .b + i + j + 1) 0)) (λ j l. ap (λ (x : ℕ). getD (now (a .left)) x 0) (add-assoc (a .a) i j)) (λ j l. ap (λ (x : ℕ). funneled 64 (a .order) (a .head .0) (getD (now (a .right)) x 0) (getD (now (a .right)) (x + 1) 0)) (add-assoc (a .b) i j)) refl
+      agree-on i _ _ (λ j. getD (now (a .left)) (a .a + j) 0) (λ j. funneled W (a .order) (a .head .0) (getD (now (a .right)) (a .b + j) 0) (getD (now (a .right)) (a .b + j + 1) 0)) (λ j. getD (now (a .left)) (a .a + i + j) 0) (λ j. funneled W (a .order) (a .head .0) (getD (now (a .right)) (a .b + i + j) 0) (getD (now (a .right)) (a .b + i + j + 1) 0)) (λ j l. ap (λ (x : ℕ). getD (now (a .left)) x 0) (add-assoc (a .a) i j)) (λ j l. ap (λ (x : ℕ). funneled W (a .order) (a .head .0) (getD (now (a .right)) x 0) (getD (now (a .right)) (x + 1) 0)) (add-assoc (a .b) i j)) refl
           (turn .loop .inv .1) (call .differ-joined .ensures .none-all (c .if1 .left)),
     )
 
@@ -75,8 +76,8 @@ returns-2 c =
     let turn = c .before .before in
     let a = turn .before .before .before .args in
     let i = turn .loop .i in
-    tells-zero (c .differ-joined2 .result) (a .k) (λ j. getD (now (a .left)) (a .a + j) 0) (λ j. funneled 64 (a .order) (a .head .0) (getD (now (a .right)) (a .b + j) 0) (getD (now (a .right)) (a .b + j + 1) 0))
-    (differs-on i (a .k - i) (a .k) (λ j. getD (now (a .left)) (a .a + j) 0) (λ j. funneled 64 (a .order) (a .head .0) (getD (now (a .right)) (a .b + j) 0) (getD (now (a .right)) (a .b + j + 1) 0)) (λ j. getD (now (a .left)) (a .a + i + j) 0) (λ j. funneled 64 (a .order) (a .head .0) (getD (now (a .right)) (a .b + i + j) 0) (getD (now (a .right)) (a .b + i + j + 1) 0)) (λ j l. ap (λ (x : ℕ). getD (now (a .left)) x 0) (add-assoc (a .a) i j)) (λ j l. ap (λ (x : ℕ). funneled 64 (a .order) (a .head .0) (getD (now (a .right)) x 0) (getD (now (a .right)) (x + 1) 0)) (add-assoc (a .b) i j)) (omega arith)
+    tells-zero (c .differ-joined2 .result) (a .k) (λ j. getD (now (a .left)) (a .a + j) 0) (λ j. funneled W (a .order) (a .head .0) (getD (now (a .right)) (a .b + j) 0) (getD (now (a .right)) (a .b + j + 1) 0))
+    (differs-on i (a .k - i) (a .k) (λ j. getD (now (a .left)) (a .a + j) 0) (λ j. funneled W (a .order) (a .head .0) (getD (now (a .right)) (a .b + j) 0) (getD (now (a .right)) (a .b + j + 1) 0)) (λ j. getD (now (a .left)) (a .a + i + j) 0) (λ j. funneled W (a .order) (a .head .0) (getD (now (a .right)) (a .b + i + j) 0) (getD (now (a .right)) (a .b + i + j + 1) 0)) (λ j l. ap (λ (x : ℕ). getD (now (a .left)) x 0) (add-assoc (a .a) i j)) (λ j l. ap (λ (x : ℕ). funneled W (a .order) (a .head .0) (getD (now (a .right)) x 0) (getD (now (a .right)) (x + 1) 0)) (add-assoc (a .b) i j)) (omega arith)
     (turn .loop .inv .1) (c .differ-joined2 .result) (c .differ-joined2 .ensures))
 
 pub equal-joined-spec : {M : Type 1} → statement M

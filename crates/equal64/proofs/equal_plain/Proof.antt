@@ -5,7 +5,7 @@ use native.Mathlib.Nat.{add-assoc}
 use native.Mathlib.Omega.{arith}
 use lib.ListN.{getD}
 use denote.Ref.{now}
-use Rattle.rules.proofs.Agree.{Agree, agree-on, agree-off, tells-no, tells-zero, differs-on}
+use Rattle.laws.proofs.words.Agree.{Agree, agree-on, agree-off, tells-no, tells-zero, differs-on}
 use Rattle.equal64.proofs.equal_plain.Statement.{statement}
 use Rattle.equal64.proofs.equal_plain.Tie as tie
 
@@ -38,7 +38,7 @@ returns c =
     let i = turn .loop .i in
     tells-no (a .k) (λ j. getD (now (a .left)) (a .a + j) 0) (λ j. getD (now (a .right)) (a .b + j) 0)
     (λ all. c .if1 .taken (call .differ-plain .ensures .all-none
-    (agree-off i 64 (a .k) (λ j. getD (now (a .left)) (a .a + j) 0) (λ j. getD (now (a .right)) (a .b + j) 0) (λ j. getD (now (a .left)) (a .a + i + j) 0) (λ j. getD (now (a .right)) (a .b + i + j) 0) (λ j l. ap (λ (x : ℕ). getD (now (a .left)) x 0) (add-assoc (a .a) i j)) (λ j l. ap (λ (x : ℕ). getD (now (a .right)) x 0) (add-assoc (a .b) i j)) (omega arith) all)))
+    (agree-off i _ (a .k) (λ j. getD (now (a .left)) (a .a + j) 0) (λ j. getD (now (a .right)) (a .b + j) 0) (λ j. getD (now (a .left)) (a .a + i + j) 0) (λ j. getD (now (a .right)) (a .b + i + j) 0) (λ j l. ap (λ (x : ℕ). getD (now (a .left)) x 0) (add-assoc (a .a) i j)) (λ j l. ap (λ (x : ℕ). getD (now (a .right)) x 0) (add-assoc (a .b) i j)) (omega arith) all)))
 
 add-i : tie.Need-add-i Inv-loop μ-loop
 add-i c = omega arith
@@ -53,7 +53,7 @@ loop-again c =
     let a = turn .before .before .before .args in
     let i = turn .loop .i in (
       omega arith,
-      agree-on i 64 (i + 64) (λ j. getD (now (a .left)) (a .a + j) 0) (λ j. getD (now (a .right)) (a .b + j) 0) (λ j. getD (now (a .left)) (a .a + i + j) 0) (λ j. getD (now (a .right)) (a .b + i + j) 0) (λ j l. ap (λ (x : ℕ). getD (now (a .left)) x 0) (add-assoc (a .a) i j)) (λ j l. ap (λ (x : ℕ). getD (now (a .right)) x 0) (add-assoc (a .b) i j)) refl
+      agree-on i _ _ (λ j. getD (now (a .left)) (a .a + j) 0) (λ j. getD (now (a .right)) (a .b + j) 0) (λ j. getD (now (a .left)) (a .a + i + j) 0) (λ j. getD (now (a .right)) (a .b + i + j) 0) (λ j l. ap (λ (x : ℕ). getD (now (a .left)) x 0) (add-assoc (a .a) i j)) (λ j l. ap (λ (x : ℕ). getD (now (a .right)) x 0) (add-assoc (a .b) i j)) refl
           (turn .loop .inv .1) (call .differ-plain .ensures .none-all (c .if1 .left)),
     )
 

@@ -5,8 +5,9 @@ use lib.ListN.{getD}
 use lib.Dec.{lit<}
 use borrow.Author.Needs.{needs}
 use denote.Ref.{now}
-use Rattle.rules.proofs.WholeWords.{wordOn, word-plain, word-joined}
-use Rattle.rules.proofs.Agree.{tells-to, words-tell}
+use Rattle.word64.specs.Width.{W}
+use Rattle.laws.proofs.words.Wholes.{wordOn, word-plain, word-joined}
+use Rattle.laws.proofs.words.Agree.{tells-to, words-tell}
 use Rattle.equal64.proofs.equal_whole.Statement.{statement}
 use Rattle.equal64.proofs.equal_whole.Tie as tie
 
@@ -22,9 +23,9 @@ returns-2 c =
     let start = known .before .before in
     let a = start .args in
     let z = start .pre .0 (omega arith) in
-    words-tell 64 (lit< tt) (a .order) (now (a .left)) (now (a .right)) (a .p) (a .q) (a .p / 64) (a .k) (omega (arith, z)) (λ k. known .before .shared-slice-known .given k .fits) (c .equal-plain .result)
-    (tells-to (c .equal-plain .result) (a .k) (λ i. getD (now (a .left)) (a .p / 64 + i) 0) _ (wordOn 64 (a .order) (now (a .right)) (a .q))
-    (word-plain 64 (a .order) (now (a .right)) (a .q / 64) (a .q) (λ k. known .shared-slice-known2 .given k .fits) (omega arith)) (c .equal-plain .ensures))
+    words-tell W (lit< tt) (a .order) (now (a .left)) (now (a .right)) (a .p) (a .q) (a .p / W) (a .k) (omega (arith, z)) (λ k. known .before .shared-slice-known .given k .fits) (c .equal-plain .result)
+    (tells-to (c .equal-plain .result) (a .k) (λ i. getD (now (a .left)) (a .p / W + i) 0) _ (wordOn W (a .order) (now (a .right)) (a .q))
+    (word-plain W (a .order) (now (a .right)) (a .q / W) (a .q) (λ k. known .shared-slice-known2 .given k .fits) (omega arith)) (c .equal-plain .ensures))
 
 equal-joined-requires : tie.Need-equal-joined-requires
 equal-joined-requires c κs = search needs
@@ -35,9 +36,9 @@ returns-3 c =
     let start = known .before .before in
     let a = start .args in
     let z = start .pre .0 (omega arith) in
-    words-tell 64 (lit< tt) (a .order) (now (a .left)) (now (a .right)) (a .p) (a .q) (a .p / 64) (a .k) (omega (arith, z)) (λ k. known .before .shared-slice-known .given k .fits) (c .equal-joined .result)
-    (tells-to (c .equal-joined .result) (a .k) (λ i. getD (now (a .left)) (a .p / 64 + i) 0) _ (wordOn 64 (a .order) (now (a .right)) (a .q))
-    (word-joined 64 (a .order) (now (a .right)) (a .q / 64) (a .q) (λ k. known .shared-slice-known2 .given k .fits) (a .q % 64) (omega arith) (omega arith)) (c .equal-joined .ensures))
+    words-tell W (lit< tt) (a .order) (now (a .left)) (now (a .right)) (a .p) (a .q) (a .p / W) (a .k) (omega (arith, z)) (λ k. known .before .shared-slice-known .given k .fits) (c .equal-joined .result)
+    (tells-to (c .equal-joined .result) (a .k) (λ i. getD (now (a .left)) (a .p / W + i) 0) _ (wordOn W (a .order) (now (a .right)) (a .q))
+    (word-joined W (a .order) (now (a .right)) (a .q / W) (a .q) (λ k. known .shared-slice-known2 .given k .fits) (a .q % W) (omega arith) (omega arith)) (c .equal-joined .ensures))
 
 pub equal-whole-spec : {M : Type 1} → statement M
 equal-whole-spec =

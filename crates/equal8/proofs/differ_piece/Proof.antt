@@ -3,7 +3,8 @@ use native.Mathlib.Omega.{arith}
 use lib.Dec.{lit<}
 use borrow.Author.Needs.{needs}
 use denote.Ref.{now}
-use Rattle.rules.proofs.Agree.{piece-differs}
+use Rattle.word8.specs.Width.{W}
+use Rattle.laws.proofs.words.Agree.{piece-differs}
 use Rattle.equal8.proofs.differ_piece.Statement.{statement}
 use Rattle.equal8.proofs.differ_piece.Tie as tie
 
@@ -29,9 +30,16 @@ returns-2 c =
     let at-fetch = at-mask .before in
     let a = at-fetch .before .before .before .before .args in
     rw (c .under .ensures)
-    (piece-differs 8 (lit< tt) (a .order) (now (a .left)) (now (a .right)) (a .p) (a .q) (a .n) (at-fetch .fetch .result) (at-mask .mask .result .0) (omega arith)
+    (piece-differs W (lit< tt) (a .order) (now (a .left)) (now (a .right)) (a .p) (a .q) (a .n) (at-fetch .fetch .result) (at-mask .mask .result .0) (omega arith)
     (λ k. known .shared-slice-known3 .given k .fits) (search needs) (at-fetch .fetch .ensures) (at-mask .mask .ensures))
 
 pub differ-piece-spec : {M : Type 1} → statement M
 differ-piece-spec =
-    tie.close (tie.spec returns fetch-requires mask-requires shared-slice-read-x under-requires returns-2)
+    tie.close
+    (tie.spec
+    returns
+    fetch-requires
+    mask-requires
+    shared-slice-read-x
+    under-requires
+    returns-2)

@@ -4,7 +4,7 @@ use Prim.Native.Nat.{ℕ, _+_, _-_, _≤_}
 use native.Mathlib.Omega.{arith}
 use lib.ListN.{getD}
 use denote.Ref.{now}
-use Rattle.rules.proofs.Agree.{Differs, differs-none, differs-more}
+use Rattle.laws.proofs.words.Agree.{Differs, differs-none, differs-more}
 use Rattle.equal8.proofs.differ_plain.Statement.{statement}
 use Rattle.equal8.proofs.differ_plain.Tie as tie
 

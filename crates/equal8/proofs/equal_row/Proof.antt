@@ -8,9 +8,10 @@ use lib.Dec.{lit<}
 use borrow.Author.Needs.{needs}
 use borrow.Author.Tests.{not-true, not-false}
 use denote.Ref.{now}
+use Rattle.word8.specs.Width.{W}
 use Rattle.rules.specs.Positions.{row}
-use Rattle.rules.proofs.RowPieces.{last-fits}
-use Rattle.rules.proofs.Agree.{tells-same, tells-no, tells-zero, differs-on, agree-on, agree-off}
+use Rattle.laws.proofs.rows.Part.{last-fits}
+use Rattle.laws.proofs.words.Agree.{tells-same, tells-no, tells-zero, differs-on, agree-on, agree-off}
 use Rattle.equal8.proofs.equal_row.Statement.{statement}
 use Rattle.equal8.proofs.equal_row.Tie as tie
 
@@ -25,8 +26,8 @@ returns c =
     let piece = c .before in
     let at-lead = piece .before in
     let a = at-lead .before .before .before .args in
-    tells-same false (a .len) (λ i. row 8 (a .order) (now (a .left)) (a .p + i)) (λ i. row 8 (a .order) (now (a .right)) (a .q + i))
-    (tells-no (a .len) (λ i. row 8 (a .order) (now (a .left)) (a .p + i)) (λ i. row 8 (a .order) (now (a .right)) (a .q + i)) (λ all. c .if1 .taken (piece .differ-piece .ensures .all-none (λ j l. all j (omega arith)))))
+    tells-same false (a .len) (λ i. row W (a .order) (now (a .left)) (a .p + i)) (λ i. row W (a .order) (now (a .right)) (a .q + i))
+    (tells-no (a .len) (λ i. row W (a .order) (now (a .left)) (a .p + i)) (λ i. row W (a .order) (now (a .right)) (a .q + i)) (λ all. c .if1 .taken (piece .differ-piece .ensures .all-none (λ j l. all j (omega arith)))))
 
 sub-k : tie.Need-sub-k
 sub-k c = search needs
@@ -48,11 +49,11 @@ returns-2 c =
     let at-lead = middle .before .before .before in
     let a = at-lead .before .before .before .args in
     let r = at-lead .lead .result in
-    let k = (a .len - r) / 8 in
-    tells-same false (a .len) (λ i. row 8 (a .order) (now (a .left)) (a .p + i)) (λ i. row 8 (a .order) (now (a .right)) (a .q + i))
-    (tells-no (a .len) (λ i. row 8 (a .order) (now (a .left)) (a .p + i)) (λ i. row 8 (a .order) (now (a .right)) (a .q + i))
+    let k = (a .len - r) / W in
+    tells-same false (a .len) (λ i. row W (a .order) (now (a .left)) (a .p + i)) (λ i. row W (a .order) (now (a .right)) (a .q + i))
+    (tells-no (a .len) (λ i. row W (a .order) (now (a .left)) (a .p + i)) (λ i. row W (a .order) (now (a .right)) (a .q + i))
     (λ all. false≢true (sym (not-true (middle .equal-whole .result) (c .if2 .taken)) ∙ middle .equal-whole .ensures .all-yes
-    (agree-off r (k * 8) (a .len) (λ i. row 8 (a .order) (now (a .left)) (a .p + i)) (λ i. row 8 (a .order) (now (a .right)) (a .q + i)) (λ i. row 8 (a .order) (now (a .left)) (a .p + r + i)) (λ i. row 8 (a .order) (now (a .right)) (a .q + r + i)) (λ j l. ap (row 8 (a .order) (now (a .left))) (add-assoc (a .p) r j)) (λ j l. ap (row 8 (a .order) (now (a .right))) (add-assoc (a .q) r j)) (omega arith) all))))
+    (agree-off r (k * W) (a .len) (λ i. row W (a .order) (now (a .left)) (a .p + i)) (λ i. row W (a .order) (now (a .right)) (a .q + i)) (λ i. row W (a .order) (now (a .left)) (a .p + r + i)) (λ i. row W (a .order) (now (a .right)) (a .q + r + i)) (λ j l. ap (row W (a .order) (now (a .left))) (add-assoc (a .p) r j)) (λ j l. ap (row W (a .order) (now (a .right))) (add-assoc (a .q) r j)) (omega arith) all))))
 
 mul-most : tie.Need-mul-most
 mul-most c = search needs
@@ -73,7 +74,7 @@ differ-piece-requires-2 : tie.Need-differ-piece-requires-2
 differ-piece-requires-2 c κs =
     let at-lead = c .before .before .before .before in
     let a = at-lead .before .before .before .args in
-    (last-fits 8 (lit< tt) (a .p) (at-lead .lead .result) (a .len) (at-lead .lead .ensures .2) (omega arith), omega arith, omega arith)
+    (last-fits W (lit< tt) (a .p) (at-lead .lead .result) (a .len) (at-lead .lead .ensures .2) (omega arith), omega arith, omega arith)
 
 returns-3 : tie.Need-returns-3
 returns-3 c =
@@ -83,12 +84,12 @@ returns-3 c =
     let at-lead = first .before in
     let a = at-lead .before .before .before .args in
     let r = at-lead .lead .result in
-    let k = (a .len - r) / 8 in
-    let t = r + k * 8 in
-    tells-same _ (a .len) (λ i. row 8 (a .order) (now (a .left)) (a .p + i)) (λ i. row 8 (a .order) (now (a .right)) (a .q + i))
-    (tells-zero (c .differ-piece2 .result) (a .len) (λ i. row 8 (a .order) (now (a .left)) (a .p + i)) (λ i. row 8 (a .order) (now (a .right)) (a .q + i))
-    (differs-on t (a .len - t) (a .len) (λ i. row 8 (a .order) (now (a .left)) (a .p + i)) (λ i. row 8 (a .order) (now (a .right)) (a .q + i)) (λ i. row 8 (a .order) (now (a .left)) (a .p + t + i)) (λ i. row 8 (a .order) (now (a .right)) (a .q + t + i)) (λ j l. ap (row 8 (a .order) (now (a .left))) (add-assoc (a .p) t j)) (λ j l. ap (row 8 (a .order) (now (a .right))) (add-assoc (a .q) t j)) (omega arith)
-    (agree-on r (k * 8) t (λ i. row 8 (a .order) (now (a .left)) (a .p + i)) (λ i. row 8 (a .order) (now (a .right)) (a .q + i)) (λ i. row 8 (a .order) (now (a .left)) (a .p + r + i)) (λ i. row 8 (a .order) (now (a .right)) (a .q + r + i)) (λ j l. ap (row 8 (a .order) (now (a .left))) (add-assoc (a .p) r j)) (λ j l. ap (row 8 (a .order) (now (a .right))) (add-assoc (a .q) r j)) refl (first .differ-piece .ensures .none-all (omega arith))
+    let k = (a .len - r) / W in
+    let t = r + k * W in
+    tells-same _ (a .len) (λ i. row W (a .order) (now (a .left)) (a .p + i)) (λ i. row W (a .order) (now (a .right)) (a .q + i))
+    (tells-zero (c .differ-piece2 .result) (a .len) (λ i. row W (a .order) (now (a .left)) (a .p + i)) (λ i. row W (a .order) (now (a .right)) (a .q + i))
+    (differs-on t (a .len - t) (a .len) (λ i. row W (a .order) (now (a .left)) (a .p + i)) (λ i. row W (a .order) (now (a .right)) (a .q + i)) (λ i. row W (a .order) (now (a .left)) (a .p + t + i)) (λ i. row W (a .order) (now (a .right)) (a .q + t + i)) (λ j l. ap (row W (a .order) (now (a .left))) (add-assoc (a .p) t j)) (λ j l. ap (row W (a .order) (now (a .right))) (add-assoc (a .q) t j)) (omega arith)
+    (agree-on r (k * W) t (λ i. row W (a .order) (now (a .left)) (a .p + i)) (λ i. row W (a .order) (now (a .right)) (a .q + i)) (λ i. row W (a .order) (now (a .left)) (a .p + r + i)) (λ i. row W (a .order) (now (a .right)) (a .q + r + i)) (λ j l. ap (row W (a .order) (now (a .left))) (add-assoc (a .p) r j)) (λ j l. ap (row W (a .order) (now (a .right))) (add-assoc (a .q) r j)) refl (first .differ-piece .ensures .none-all (omega arith))
     (middle .equal-whole .ensures .yes-all (not-false (middle .equal-whole .result) (test .if2 .left))))
     (c .differ-piece2 .result) (c .differ-piece2 .ensures)))
 

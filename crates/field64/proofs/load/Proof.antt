@@ -5,20 +5,21 @@ use mathlib.Core.Path.{_≡_, sym, _∙_}
 use lib.ListN.{length}
 use lib.Pow.{pow-pos, pow-mono}
 use denote.Ref.{now}
+use Rattle.word64.specs.Width.{W}
 use Rattle.rules.specs.declared.Verdict.the-variants.{Fine}
 use Rattle.rules.specs.Positions.{start}
 use Rattle.rules.specs.Refusals.{verdict, loadCases}
-use Rattle.rules.proofs.Accepted.{Load, fine-load}
-use Rattle.rules.proofs.FieldCalls.{load-refused, load-done}
+use Rattle.rules.proofs.refusals.Accepted.{Load, fine-load}
+use Rattle.laws.proofs.fields.FieldCalls.{load-refused, load-done}
 use Rattle.field64.proofs.load.Statement.{statement}
 use Rattle.field64.proofs.load.Tie as tie
-use Rattle.rules.proofs.OneAnswer.{judged}
+use Rattle.rules.proofs.refusals.OneAnswer.{judged}
 
-fine : (c : tie.After-enum-told) → (let a = c .before .before .before .before .args in verdict (loadCases 64 (length (now (a .words))) (a .span) (a .k)) ≡ Fine)
+fine : (c : tie.After-enum-told) → (let a = c .before .before .before .before .args in verdict (loadCases W (length (now (a .words))) (a .span) (a .k)) ≡ Fine)
 fine c = sym (judged (c .before .before .check-load .ensures)) ∙ c .enum-told .given .1
 
-held : (c : tie.After-enum-told) → (let a = c .before .before .before .before .args in Load 64 (length (now (a .words))) (a .span) (a .k))
-held c = fine-load 64 _ _ _ (fine c)
+held : (c : tie.After-enum-told) → (let a = c .before .before .before .before .args in Load W (length (now (a .words))) (a .span) (a .k))
+held c = fine-load W _ _ _ (fine c)
 
 check-load-requires : tie.Need-check-load-requires
 check-load-requires c κs = search needs
@@ -40,11 +41,11 @@ of-bits-requires c κs =
     (omega arith, omega arith, omega (arith, c .load-by .ensures .1, pow-pos (a .span .len), pow-mono (z .fitting)))
 
 returns : tie.Need-returns
-returns c = load-refused 64 _ _ _ _ _ (sym (judged (c .before .before .before .check-load .ensures)) ∙ c .before .verdict .given .1)
+returns c = load-refused W _ _ _ _ _ (sym (judged (c .before .before .before .check-load .ensures)) ∙ c .before .verdict .given .1)
 
 returns-2 : tie.Need-returns-2
 unfolding start
-returns-2 c = load-done 64 _ _ _ _ _ (fine (c .before .before)) (c .of-bits .result) (c .of-bits .ensures) (c .before .load-by .ensures .0)
+returns-2 c = load-done W _ _ _ _ _ (fine (c .before .before)) (c .of-bits .result) (c .of-bits .ensures) (c .before .load-by .ensures .0)
 
 pub load-spec : {M : Type 1} → statement M
 load-spec =

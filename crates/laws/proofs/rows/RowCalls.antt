@@ -13,6 +13,7 @@ use Rattle.rules.specs.Rows.{copied, moved, copiedWithin, applied, rightBit, co
 use Rattle.rules.specs.Refusals.{number, verdict, pairCases, copyCases, withinCases}
 use Rattle.rules.specs.Calls.{Answer, refused, done, says-yes, says-no, Call, here, there, copyFrom, copyWithin, boolean, equal, cases, answer!, after!, answer, after, swapVerdict, swapAnswer, swapLeft, swapRight}
 use Rattle.rules.specs.Answers.{writeSays, Gives, Swaps}
+use Rattle.rules.proofs.refusals.Tables.{Inside}
 use Rattle.rules.proofs.refusals.Accepted.{fine-pair, fine-copy}
 use Rattle.rules.proofs.rows.Splice.{splice-eq}
 use Rattle.rules.proofs.sentences.Sentences.{refused-call, accepted-call, refused-swap, accepted-swap, right-here, right-past}
@@ -31,7 +32,12 @@ call-done W c ws d e em =
     let k = accepted-call W c ws e in
     record { answers = sym (k .0 ∙ d); holds = em ∙ sym (k .1) }
 
--- ---- copy between
+-- where an accepted span starts, there is room for its bits
+pub start-in : (W n : ℕ) (s : Span) {p : ℕ} → Inside W n s → p ≡ start W s → p + s .len ≤ n * W
+unfolding start
+start-in W n s i e = omega (arith, e, i)
+
+-- ---- copy from another buffer
 
 module _ (W : ℕ) (ws : List ℕ) (s : Span) (vs : List ℕ) (t : Span) where
   pub copy-refused : (r : Refusal) {m : List ℕ} → verdict (copyCases W (length ws) s (length vs) t) ≡ Refused r → m ≡ ws
@@ -41,31 +47,31 @@ module _ (W : ℕ) (ws : List ℕ) (s : Span) (vs : List ℕ) (t : Span) where
 
   -- what a copy of s's length leaves, in s's order
   pub copied-is : verdict (copyCases W (length ws) s (length vs) t) ≡ Fine
-      → spliced W (s .order) ws (s .word * W + s .head .0) (s .len) (λ i. row W (s .order) vs (t .word * W + t .head .0 + i)) ≡ copied W ws s vs t
+      → spliced W (s .order) ws (start W s) (s .len) (λ i. row W (s .order) vs (start W t + i)) ≡ copied W ws s vs t
   unfolding copied spanBit start
   copied-is e =
-      ap (λ (o : Order). spliced W (s .order) ws (s .word * W + s .head .0) (s .len) (λ i. row W o vs (t .word * W + t .head .0 + i)))
+      ap (λ (o : Order). spliced W (s .order) ws (start W s) (s .len) (λ i. row W o vs (start W t + i)))
       (fine-copy W (length ws) s (length vs) t e .pair .one-order)
 
   pub copy-done : {m : List ℕ} → verdict (copyCases W (length ws) s (length vs) t) ≡ Fine
-      → m ≡ spliced W (s .order) ws (s .word * W + s .head .0) (s .len) (λ i. row W (s .order) vs (t .word * W + t .head .0 + i))
+      → m ≡ spliced W (s .order) ws (start W s) (s .len) (λ i. row W (s .order) vs (start W t + i))
       → Gives W (copyFrom s vs t) ws (writeSays Done) m
   unfolding cases answer! after!
   copy-done e em = call-done W (copyFrom s vs t) ws refl e (em ∙ copied-is e)
 
--- ---- copy inside
+-- ---- copy within
 
 module _ (W : ℕ) (ws : List ℕ) (s : Span) (from count to : ℕ) where
-  pub inside-refused : (r : Refusal) {m : List ℕ} → verdict (withinCases W (length ws) s from count to) ≡ Refused r → m ≡ ws
+  pub within-refused : (r : Refusal) {m : List ℕ} → verdict (withinCases W (length ws) s from count to) ≡ Refused r → m ≡ ws
       → Gives W (copyWithin s from count to) ws (writeSays (Write·Refused r)) m
   unfolding cases
-  inside-refused r e em = call-refused W (copyWithin s from count to) ws r e em
+  within-refused r e em = call-refused W (copyWithin s from count to) ws r e em
 
-  pub inside-done : {m : List ℕ} → verdict (withinCases W (length ws) s from count to) ≡ Fine
-      → m ≡ moved W (s .order) ws (s .word * W + s .head .0 + from) (s .word * W + s .head .0 + to) count
+  pub within-done : {m : List ℕ} → verdict (withinCases W (length ws) s from count to) ≡ Fine
+      → m ≡ moved W (s .order) ws (start W s + from) (start W s + to) count
       → Gives W (copyWithin s from count to) ws (writeSays Done) m
   unfolding cases answer! after! copiedWithin start
-  inside-done e em = call-done W (copyWithin s from count to) ws refl e em
+  within-done e em = call-done W (copyWithin s from count to) ws refl e em
 
 -- ---- boolean
 
@@ -77,30 +83,30 @@ module _ (W : ℕ) (pos : 0 < W) (op : ℕ) (ws : List ℕ) (s : Span) (vs : Lis
 
   -- R i is the right bit i, and 0 past the right's end
   pub boolean-done : (R : ℕ → ℕ) {m : List ℕ} → verdict (pairCases W (length ws) s (length vs) t) ≡ Fine
-      → m ≡ spliced W (s .order) ws (s .word * W + s .head .0) (s .len) (λ i. applied op (row W (s .order) ws (s .word * W + s .head .0 + i)) (R i))
-      → ((i : ℕ) → i < t .len → R i ≡ row W (s .order) vs (t .word * W + t .head .0 + i)) → ((i : ℕ) → t .len ≤ i → R i ≡ 0)
+      → m ≡ spliced W (s .order) ws (start W s) (s .len) (λ i. applied op (row W (s .order) ws (start W s + i)) (R i))
+      → ((i : ℕ) → i < t .len → R i ≡ row W (s .order) vs (start W t + i)) → ((i : ℕ) → t .len ≤ i → R i ≡ 0)
       → Gives W (boolean op s vs t) ws (writeSays Done) m
   unfolding cases answer! after! combined spanBit start
   boolean-done R e em inside past =
       call-done W (boolean op s vs t) ws refl e
-      (em ∙ splice-eq W pos (s .order) ws (s .word * W + s .head .0) (s .len) (λ i. applied op (row W (s .order) ws (s .word * W + s .head .0 + i)) (R i))
-      (λ i. applied op (row W (s .order) ws (s .word * W + s .head .0 + i)) (rightBit W vs t i))
-      (λ i l. ap (applied op (row W (s .order) ws (s .word * W + s .head .0 + i))) (go i (decLt i (t .len)))))
+      (em ∙ splice-eq W pos (s .order) ws (start W s) (s .len) (λ i. applied op (row W (s .order) ws (start W s + i)) (R i))
+      (λ i. applied op (row W (s .order) ws (start W s + i)) (rightBit W vs t i))
+      (λ i l. ap (applied op (row W (s .order) ws (start W s + i))) (go i (decLt i (t .len)))))
     where
       go : (i : ℕ) → Dec (i < t .len) → R i ≡ rightBit W vs t i
       go i (yes l) =
-          inside i l ∙ ap (λ (o : Order). row W o vs (t .word * W + t .head .0 + i)) (fine-pair W (length ws) s (length vs) t e .one-order)
+          inside i l ∙ ap (λ (o : Order). row W o vs (start W t + i)) (fine-pair W (length ws) s (length vs) t e .one-order)
           ∙ sym (right-here W vs t i l)
       go i (no l) = past i (omega arith) ∙ sym (right-past W vs t i (omega arith))
 
 -- ---- swap
 
 same-pair : (W : ℕ) (ws : List ℕ) (s : Span) (vs : List ℕ) (t : Span) → verdict (copyCases W (length ws) s (length vs) t) ≡ Fine
-    → spliced W (s .order) vs (t .word * W + t .head .0) (s .len) (λ i. row W (s .order) ws (s .word * W + s .head .0 + i)) ≡ copied W vs t ws s
+    → spliced W (s .order) vs (start W t) (s .len) (λ i. row W (s .order) ws (start W s + i)) ≡ copied W vs t ws s
 unfolding copied spanBit start
 same-pair W ws s vs t e =
     let f = fine-copy W (length ws) s (length vs) t e in
-    ap₂ (λ (o : Order) (n : ℕ). spliced W o vs (t .word * W + t .head .0) n (λ i. row W (s .order) ws (s .word * W + s .head .0 + i))) (f .pair .one-order) (f .one-length)
+    ap₂ (λ (o : Order) (n : ℕ). spliced W o vs (start W t) n (λ i. row W (s .order) ws (start W s + i))) (f .pair .one-order) (f .one-length)
 
 module _ (W : ℕ) (ws : List ℕ) (s : Span) (vs : List ℕ) (t : Span) where
   pub swap-refused : (r : Refusal) → verdict (copyCases W (length ws) s (length vs) t) ≡ Refused r
@@ -109,8 +115,8 @@ module _ (W : ℕ) (ws : List ℕ) (s : Span) (vs : List ℕ) (t : Span) where
   swap-refused r e = let k = refused-swap W ws s vs t r e in record { answers = sym (k .0); holds-left = sym (k .1); holds-right = sym (k .2) }
 
   pub swap-done : {left right : List ℕ} → verdict (copyCases W (length ws) s (length vs) t) ≡ Fine
-      → left ≡ spliced W (s .order) ws (s .word * W + s .head .0) (s .len) (λ i. row W (s .order) vs (t .word * W + t .head .0 + i))
-      → right ≡ spliced W (s .order) vs (t .word * W + t .head .0) (s .len) (λ i. row W (s .order) ws (s .word * W + s .head .0 + i))
+      → left ≡ spliced W (s .order) ws (start W s) (s .len) (λ i. row W (s .order) vs (start W t + i))
+      → right ≡ spliced W (s .order) vs (start W t) (s .len) (λ i. row W (s .order) ws (start W s + i))
       → Swaps W ws s vs t (writeSays Done) left right
   unfolding swapVerdict
   swap-done e el er =
@@ -137,12 +143,12 @@ module _ (W : ℕ) (ws : List ℕ) (s : Span) (vs : List ℕ) (t : Span) where
 
   -- equal lengths answer by the bits
   pub equal-bits : (b : Bool) {r : Answer} → verdict (pairCases W (length ws) s (length vs) t) ≡ Fine → s .len ≡ t .len → r ≡ cond b says-yes says-no
-      → b ≡ sameBits (s .len) (λ i. row W (s .order) ws (s .word * W + s .head .0 + i)) (λ i. row W (s .order) vs (t .word * W + t .head .0 + i))
+      → b ≡ sameBits (s .len) (λ i. row W (s .order) ws (start W s + i)) (λ i. row W (s .order) vs (start W t + i))
       → r ≡ answer W (equal here s (there vs) t) ws
   unfolding cases answer! sameSpans spanBit start
   equal-bits b e n er eb =
       er ∙ ap (λ (x : Bool). cond x says-yes says-no)
-      (eb ∙ ap (λ (o : Order). sameBits (s .len) (λ i. row W (s .order) ws (s .word * W + s .head .0 + i)) (λ i. row W o vs (t .word * W + t .head .0 + i)))
+      (eb ∙ ap (λ (o : Order). sameBits (s .len) (λ i. row W (s .order) ws (start W s + i)) (λ i. row W o vs (start W t + i)))
       (fine-pair W (length ws) s (length vs) t e .one-order))
       ∙ sym (accepted-call W (equal here s (there vs) t) ws e .0
       ∙ ap (λ (x : Bool). cond (x && sameBits (s .len) (spanBit W ws s) (spanBit W vs t)) says-yes says-no) (eq-eqb (s .len) (t .len) n))

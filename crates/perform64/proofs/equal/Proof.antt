@@ -1,7 +1,8 @@
 -- `equal`: the four places of two sides. Only the words compared count, wherever they lie.
 use borrow.Author.Needs.{needs}
 use mathlib.Core.Path.{_∙_}
-use Rattle.rules.proofs.Reading.{equal-here, equal-there, equal-apart}
+use Rattle.word64.specs.Width.{W}
+use Rattle.laws.proofs.rows.Reading.{equal-here, equal-there, equal-apart}
 use Rattle.perform64.proofs.equal.Statement.{statement}
 use Rattle.perform64.proofs.equal.Tie as tie
 
@@ -48,16 +49,16 @@ of-equal-requires-4 : tie.Need-of-equal-requires-4
 of-equal-requires-4 c κs = search needs
 
 returns : tie.Need-returns
-returns c = c .of-equal .ensures ∙ rw (c .before .before .before .before .enum-told .given .1, c .before .before .enum-told2 .given .1) (c .before .equal .ensures ∙ equal-here 64 _ _ _)
+returns c = c .of-equal .ensures ∙ rw (c .before .before .before .before .enum-told .given .1, c .before .before .enum-told2 .given .1) (c .before .equal .ensures ∙ equal-here W _ _ _)
 
 returns-2 : tie.Need-returns-2
 returns-2 c = c .of-equal2 .ensures ∙ rw (c .before .before .before .before .enum-told .given .1, c .before .before .enum-told3 .given .1) (c .before .equal2 .ensures)
 
 returns-3 : tie.Need-returns-3
-returns-3 c = c .of-equal3 .ensures ∙ rw (c .before .before .before .before .enum-told4 .given .1, c .before .before .enum-told5 .given .1) (c .before .equal3 .ensures ∙ equal-there 64 _ _ _ _)
+returns-3 c = c .of-equal3 .ensures ∙ rw (c .before .before .before .before .enum-told4 .given .1, c .before .before .enum-told5 .given .1) (c .before .equal3 .ensures ∙ equal-there W _ _ _ _)
 
 returns-4 : tie.Need-returns-4
-returns-4 c = c .of-equal4 .ensures ∙ rw (c .before .before .before .before .enum-told4 .given .1, c .before .before .enum-told6 .given .1) (c .before .equal4 .ensures ∙ equal-apart 64 _ _ _ _)
+returns-4 c = c .of-equal4 .ensures ∙ rw (c .before .before .before .before .enum-told4 .given .1, c .before .before .enum-told6 .given .1) (c .before .equal4 .ensures ∙ equal-apart W _ _ _ _)
 
 pub equal-spec : {M : Type 1} → statement M
 equal-spec =

@@ -1,7 +1,8 @@
 -- `perform`: in each arm the request is the call that the arm makes, and the reply says what that call answers.
 use borrow.Author.Needs.{needs}
 use mathlib.Core.Path.{refl}
-use Rattle.rules.proofs.Reading.{read-bit-leaves, load-leaves, equal-leaves, find-first-leaves, find-last-leaves}
+use Rattle.word64.specs.Width.{W}
+use Rattle.laws.proofs.rows.Reading.{read-bit-leaves, load-leaves, equal-leaves, find-first-leaves, find-last-leaves}
 use Rattle.requests.proofs.Performed.{read, wrote}
 use Rattle.perform64.proofs.perform.Statement.{statement}
 use Rattle.perform64.proofs.perform.Tie as tie
@@ -100,7 +101,7 @@ same-length : tie.Need-same-length
 same-length c = search needs
 
 returns : tie.Need-returns
-returns c = rw (c .before .before .before .before .request .given .1) (read 64 _ _ (c .of-bit .ensures) (c .before .read-bit .ensures) (read-bit-leaves 64 _ _ _) refl)
+returns c = rw (c .before .before .before .before .request .given .1) (read W _ _ (c .of-bit .ensures) (c .before .read-bit .ensures) (read-bit-leaves W _ _ _) refl)
 
 same-length-2 : tie.Need-same-length-2
 same-length-2 c = search needs
@@ -112,7 +113,7 @@ same-length-3 : tie.Need-same-length-3
 same-length-3 c = search needs
 
 returns-3 : tie.Need-returns-3
-returns-3 c = rw (c .before .before .before .before .request3 .given .1) (read 64 _ _ (c .of-number .ensures) (c .before .load .ensures) (load-leaves 64 _ _ _ _ _) refl)
+returns-3 c = rw (c .before .before .before .before .request3 .given .1) (read W _ _ (c .of-number .ensures) (c .before .load .ensures) (load-leaves W _ _ _ _ _) refl)
 
 same-length-4 : tie.Need-same-length-4
 same-length-4 c = search needs
@@ -148,19 +149,19 @@ same-length-9 : tie.Need-same-length-9
 same-length-9 c = search needs
 
 returns-9 : tie.Need-returns-9
-returns-9 c = rw (c .before .before .before .request9 .given .1) (read 64 _ _ refl (c .equal .ensures) (equal-leaves 64 _ _ _ _ _) refl)
+returns-9 c = rw (c .before .before .before .request9 .given .1) (read W _ _ refl (c .equal .ensures) (equal-leaves W _ _ _ _ _) refl)
 
 same-length-10 : tie.Need-same-length-10
 same-length-10 c = search needs
 
 returns-10 : tie.Need-returns-10
-returns-10 c = rw (c .before .before .before .request10 .given .1) (read 64 _ _ refl (c .first .ensures) (find-first-leaves 64 _ _ _) refl)
+returns-10 c = rw (c .before .before .before .request10 .given .1) (read W _ _ refl (c .first .ensures) (find-first-leaves W _ _ _) refl)
 
 same-length-11 : tie.Need-same-length-11
 same-length-11 c = search needs
 
 returns-11 : tie.Need-returns-11
-returns-11 c = rw (c .before .before .before .request11 .given .1) (read 64 _ _ refl (c .last .ensures) (find-last-leaves 64 _ _ _) refl)
+returns-11 c = rw (c .before .before .before .request11 .given .1) (read W _ _ refl (c .last .ensures) (find-last-leaves W _ _ _) refl)
 
 pub perform-spec : {M : Type 1} → statement M
 perform-spec =

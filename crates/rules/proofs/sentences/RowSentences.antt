@@ -16,7 +16,7 @@ use Rattle.rules.proofs.rows.Row.{bitAt-at}
 use Rattle.rules.proofs.rows.Splice.{splice-eq}
 use Rattle.rules.proofs.refusals.Tables.{Inside}
 use Rattle.rules.proofs.refusals.Accepted.{Copy, fine-pair, fine-copy, fine-move}
-use Rattle.rules.proofs.sentences.Sentences.{done-fine, fine-of-done, accepted-call, accepted-swap, copy-bit, inside-bit, boolean-bit, right-here, right-past, equal-yes, yes-equal}
+use Rattle.rules.proofs.sentences.Sentences.{done-fine, fine-of-done, accepted-call, accepted-swap, copy-bit, within-bit, boolean-bit, right-here, right-past, equal-yes, yes-equal}
 use Rattle.rules.proofs.isolation.Footprints.{beside, spliced-outside}
 
 bounds : (W n : ℕ) (s : Span) → Inside W n s → start W s + s .len ≤ n * W
@@ -58,7 +58,7 @@ module _ (W : ℕ) (wide : 0 < W) (ws : List ℕ) where
         let fine = fine-of-done W (copyWithin s from count to) ws e in
         let m = fine-move W (length ws) s from count to fine in
         ap (λ (xs : List ℕ). spanBit W xs s (to + i)) (accepted-call W (copyWithin s from count to) ws fine .1)
-        ∙ inside-bit W wide ws s (bounds W (length ws) s (m .lies)) from count to i (m .target) l
+        ∙ within-bit W wide ws s (bounds W (length ws) s (m .lies)) from count to i (m .target) l
 
     -- Other bits stay, those of the source too.
     pub moved-beside : (k p : ℕ) → p < W → covers W (s .order) (start W s + to) count (k * W + p) ≡ false

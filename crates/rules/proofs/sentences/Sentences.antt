@@ -96,9 +96,9 @@ module _ (W : ℕ) (pos : 0 < W) (ws : List ℕ) (s : Span) (bounds : start W s 
       spliced-inside W pos (s .order) ws (start W s) (s .len) (λ i. row W (t .order) vs (start W t + i)) bounds i h ∙ row-bit W (t .order) vs (start W t + i)
 
   -- Copy inside: bit to + i becomes the old bit from + i.
-  pub inside-bit : (from count to i : ℕ) → to + count ≤ s .len → i < count → spanBit W (copiedWithin W ws s from count to) s (to + i) ≡ spanBit W ws s (from + i)
+  pub within-bit : (from count to i : ℕ) → to + count ≤ s .len → i < count → spanBit W (copiedWithin W ws s from count to) s (to + i) ≡ spanBit W ws s (from + i)
   unfolding spanBit copiedWithin moved
-  inside-bit from count to i l h =
+  within-bit from count to i l h =
       ap (row W (s .order) (copiedWithin W ws s from count to)) (sym (add-assoc (start W s) to i))
       ∙ spliced-inside W pos (s .order) ws (start W s + to) count (λ i. row W (s .order) ws (start W s + from + i)) (omega arith) i h
       ∙ row-bit W (s .order) ws (start W s + from + i) ∙ ap (row W (s .order) ws) (add-assoc (start W s) from i)

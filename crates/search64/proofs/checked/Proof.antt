@@ -2,7 +2,7 @@
 use borrow.Author.Needs.{needs}
 use Rattle.search64.proofs.checked.Statement.{statement}
 use Rattle.search64.proofs.checked.Tie as tie
-use Rattle.rules.proofs.OneAnswer.{judged, judges}
+use Rattle.rules.proofs.refusals.OneAnswer.{judged, judges}
 
 check-requires : tie.Need-check-requires
 check-requires c κs = search needs

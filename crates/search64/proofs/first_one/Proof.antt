@@ -1,11 +1,12 @@
 -- `first_one`: refused by the span's table, or the row's answer. Assumes nothing.
 use borrow.Author.Needs.{needs}
 use mathlib.Core.Path.{sym, _∙_}
-use Rattle.rules.proofs.Tables.{fine-inside}
-use Rattle.rules.proofs.SearchAnswers.{first-refused, answers-first}
+use Rattle.word64.specs.Width.{W}
+use Rattle.rules.proofs.refusals.Tables.{fine-inside}
+use Rattle.rules.proofs.searches.SearchAnswers.{first-refused, answers-first}
 use Rattle.search64.proofs.first_one.Statement.{statement}
 use Rattle.search64.proofs.first_one.Tie as tie
-use Rattle.rules.proofs.OneAnswer.{judged}
+use Rattle.rules.proofs.refusals.OneAnswer.{judged}
 
 checked-requires : tie.Need-checked-requires
 checked-requires c κs = search needs
@@ -18,7 +19,7 @@ enum-told c = search needs
 
 first-in-row-requires : tie.Need-first-in-row-requires
 first-in-row-requires c κs =
-    let p = fine-inside 64 _ _ (sym (judged (c .before .before .checked .ensures)) ∙ c .enum-told .given .1) in
+    let p = fine-inside W _ _ (sym (judged (c .before .before .checked .ensures)) ∙ c .enum-told .given .1) in
     (p .starts, p .ends, p .few)
 
 first-answer-requires : tie.Need-first-answer-requires
@@ -28,14 +29,14 @@ returns : tie.Need-returns
 returns c =
     let at-check = c .before .before .before in
     let a = at-check .before .before .args in
-    first-refused 64 1 (a .span) (a .words .now) (sym (judged (at-check .checked .ensures)) ∙ c .before .verdict .given .1)
+    first-refused W 1 (a .span) (a .words .now) (sym (judged (at-check .checked .ensures)) ∙ c .before .verdict .given .1)
 
 returns-2 : tie.Need-returns-2
 returns-2 c =
     let at-row = c .before in
     let at-check = at-row .before .before .before in
     let a = at-check .before .before .args in
-    answers-first 64 1 (a .span) (a .words .now) (sym (judged (at-check .checked .ensures)) ∙ at-row .before .enum-told .given .1) (at-row .first-in-row .ensures) (c .first-answer .ensures)
+    answers-first W 1 (a .span) (a .words .now) (sym (judged (at-check .checked .ensures)) ∙ at-row .before .enum-told .given .1) (at-row .first-in-row .ensures) (c .first-answer .ensures)
 
 pub first-one-spec : {M : Type 1} → statement M
 first-one-spec =

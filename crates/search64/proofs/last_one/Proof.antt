@@ -2,11 +2,12 @@
 use native.Mathlib.Omega.{arith}
 use borrow.Author.Needs.{needs}
 use mathlib.Core.Path.{sym, _∙_}
-use Rattle.rules.proofs.Tables.{fine-inside}
-use Rattle.rules.proofs.SearchAnswers.{last-refused, answers-last}
+use Rattle.word64.specs.Width.{W}
+use Rattle.rules.proofs.refusals.Tables.{fine-inside}
+use Rattle.rules.proofs.searches.SearchAnswers.{last-refused, answers-last}
 use Rattle.search64.proofs.last_one.Statement.{statement}
 use Rattle.search64.proofs.last_one.Tie as tie
-use Rattle.rules.proofs.OneAnswer.{judged}
+use Rattle.rules.proofs.refusals.OneAnswer.{judged}
 
 checked-requires : tie.Need-checked-requires
 checked-requires c κs = search needs
@@ -19,7 +20,7 @@ enum-told c = search needs
 
 last-in-row-requires : tie.Need-last-in-row-requires
 last-in-row-requires c κs =
-    let p = fine-inside 64 _ _ (sym (judged (c .before .before .checked .ensures)) ∙ c .enum-told .given .1) in
+    let p = fine-inside W _ _ (sym (judged (c .before .before .checked .ensures)) ∙ c .enum-told .given .1) in
     (p .starts, omega arith, p .few)
 
 last-answer-requires : tie.Need-last-answer-requires
@@ -29,14 +30,14 @@ returns : tie.Need-returns
 returns c =
     let at-check = c .before .before .before in
     let a = at-check .before .before .args in
-    last-refused 64 1 (a .span) (a .words .now) (sym (judged (at-check .checked .ensures)) ∙ c .before .verdict .given .1)
+    last-refused W 1 (a .span) (a .words .now) (sym (judged (at-check .checked .ensures)) ∙ c .before .verdict .given .1)
 
 returns-2 : tie.Need-returns-2
 returns-2 c =
     let at-row = c .before in
     let at-check = at-row .before .before .before in
     let a = at-check .before .before .args in
-    answers-last 64 1 (a .span) (a .words .now) (sym (judged (at-check .checked .ensures)) ∙ at-row .before .enum-told .given .1) (at-row .last-in-row .ensures) (c .last-answer .ensures)
+    answers-last W 1 (a .span) (a .words .now) (sym (judged (at-check .checked .ensures)) ∙ at-row .before .enum-told .given .1) (at-row .last-in-row .ensures) (c .last-answer .ensures)
 
 pub last-one-spec : {M : Type 1} → statement M
 last-one-spec =

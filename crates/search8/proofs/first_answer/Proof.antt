@@ -1,6 +1,6 @@
 -- `first_answer`: found below the length. Assumes nothing.
 use native.Mathlib.Omega.{arith}
-use Rattle.rules.proofs.SearchAnswers.{first-here-said, first-none-said}
+use Rattle.rules.proofs.searches.SearchAnswers.{first-here-said, first-none-said}
 use Rattle.search8.proofs.first_answer.Statement.{statement}
 use Rattle.search8.proofs.first_answer.Tie as tie
 

@@ -1,7 +1,7 @@
 -- `last_answer`: found above 0. Assumes nothing.
 use borrow.Author.Needs.{needs}
 use native.Mathlib.Omega.{arith}
-use Rattle.rules.proofs.SearchAnswers.{last-here-said, last-none-said}
+use Rattle.rules.proofs.searches.SearchAnswers.{last-here-said, last-none-said}
 use Rattle.search8.proofs.last_answer.Statement.{statement}
 use Rattle.search8.proofs.last_answer.Tie as tie
 

@@ -4,9 +4,10 @@ use native.Mathlib.Omega.{arith}
 use lib.Dec.{lit<}
 use borrow.Author.Needs.{needs}
 use denote.Ref.{now}
+use Rattle.word64.specs.Width.{W}
 use Rattle.rules.specs.Positions.{row}
-use Rattle.rules.proofs.RowPieces.{none-put}
-use Rattle.rules.proofs.InPlace.{near-put}
+use Rattle.laws.proofs.rows.Part.{none-put}
+use Rattle.laws.proofs.rows.InPlace.{near-put}
 use Rattle.swap64.proofs.piece.Statement.{statement}
 use Rattle.swap64.proofs.piece.Tie as tie
 
@@ -14,16 +15,18 @@ returns : tie.Need-returns
 returns c =
     let known = c .before in
     let a = known .before .before .args in (
-      none-put 64 (lit< tt) (a .order) (now (a .left)) (a .d) (λ i. row 64 (a .order) (now (a .right)) (a .s + i)) (a .n) (c .if1 .taken) (λ k. known .before .slice-known .given k .fits),
-      none-put 64 (lit< tt) (a .order) (now (a .right)) (a .s) (λ i. row 64 (a .order) (now (a .left)) (a .d + i)) (a .n) (c .if1 .taken) (λ k. known .slice-known2 .given k .fits),
+      none-put W (lit< tt) (a .order) (now (a .left)) (a .d) (λ i. row W (a .order) (now (a .right)) (a .s + i)) (a .n) (c .if1 .taken) (λ k. known .before .slice-known .given k .fits),
+      none-put W (lit< tt) (a .order) (now (a .right)) (a .s) (λ i. row W (a .order) (now (a .left)) (a .d + i)) (a .n) (c .if1 .taken) (λ k. known .slice-known2 .given k .fits),
     )
 
+-- asked above 8 bits
 mul-x : tie.Need-mul-x
 mul-x c = search needs
 
 slice-read-x : tie.Need-slice-read-x
 slice-read-x c = search needs
 
+-- asked above 8 bits
 mul-y : tie.Need-mul-y
 mul-y c = search needs
 
@@ -47,8 +50,8 @@ returns-2 c =
     let second = c .before .before in
     let first = second .before .before .before .before in
     let a = first .before .before .before .before .before .before .before .args in (
-      near-put 64 (lit< tt) (a .order) (now (a .left)) (now (a .right)) (a .d) (a .s) (a .n) (omega arith) (omega arith) (first .put .ensures),
-      near-put 64 (lit< tt) (a .order) (now (a .right)) (now (a .left)) (a .s) (a .d) (a .n) (omega arith) (omega arith) (second .put2 .ensures),
+      near-put W (lit< tt) (a .order) (now (a .left)) (now (a .right)) (a .d) (a .s) (a .n) (omega arith) (omega arith) (first .put .ensures),
+      near-put W (lit< tt) (a .order) (now (a .right)) (now (a .left)) (a .s) (a .d) (a .n) (omega arith) (omega arith) (second .put2 .ensures),
     )
 
 pub piece-spec : {M : Type 1} → statement M

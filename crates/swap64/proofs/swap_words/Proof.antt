@@ -5,7 +5,7 @@ use native.Mathlib.Omega.{arith}
 use lib.ListN.{length, getD, length-set}
 use borrow.Author.Count.{below-none}
 use denote.Ref.{now}
-use Rattle.rules.proofs.Filled.{filled-more, kept-more}
+use Rattle.laws.proofs.rows.Filled.{filled-more, kept-more}
 use Rattle.swap64.proofs.swap_words.Statement.{statement}
 use Rattle.swap64.proofs.swap_words.Tie as tie
 
@@ -20,24 +20,28 @@ abbrev μ-loop : tie.MeasureT-loop
 loop-holds : tie.Need-loop-holds Inv-loop μ-loop
 loop-holds c = (omega arith, refl, refl, below-none _, below-none _, (λ k l. refl), (λ k l. refl))
 
+-- asked above 8 bits
 mul-x : tie.Need-mul-x Inv-loop μ-loop
 mul-x c = omega arith
 
 slice-read-x : tie.Need-slice-read-x Inv-loop μ-loop
 slice-read-x c = omega arith
 
+-- asked above 8 bits
 mul-left : tie.Need-mul-left Inv-loop μ-loop
 mul-left c = omega arith
 
 slice-read-left : tie.Need-slice-read-left Inv-loop μ-loop
 slice-read-left c = omega arith
 
+-- asked above 8 bits
 mul-left-2 : tie.Need-mul-left-2 Inv-loop μ-loop
 mul-left-2 c = omega arith
 
 slice-write-left : tie.Need-slice-write-left Inv-loop μ-loop
 slice-write-left c = omega arith
 
+-- asked above 8 bits
 mul-right : tie.Need-mul-right Inv-loop μ-loop
 mul-right c = omega arith
 

@@ -5,10 +5,11 @@ use native.Mathlib.Omega.{arith}
 use lib.Dec.{lit<}
 use borrow.Author.Needs.{needs}
 use denote.Ref.{now}
+use Rattle.word64.specs.Width.{W}
 use Rattle.rules.specs.Positions.{row}
-use Rattle.rules.proofs.Row.{Words}
-use Rattle.rules.proofs.RowPieces.{none-put}
-use Rattle.rules.proofs.WholeWords.{mid-length, lent-row, part-plain}
+use Rattle.rules.proofs.rows.Row.{Words}
+use Rattle.laws.proofs.rows.Part.{none-put, mid-length}
+use Rattle.laws.proofs.words.Wholes.{lent-row, part-plain}
 use Rattle.swap64.proofs.whole.Statement.{statement}
 use Rattle.swap64.proofs.whole.Tie as tie
 
@@ -17,8 +18,8 @@ returns c =
     let known = c .before in
     let a = known .before .before .args in
     λ o. (
-      none-put 64 (lit< tt) o (now (a .left)) (a .d) (λ i. row 64 o (now (a .right)) (a .s + i)) (a .k * 64) (omega arith) (λ k. known .before .slice-known .given k .fits),
-      none-put 64 (lit< tt) o (now (a .right)) (a .s) (λ i. row 64 o (now (a .left)) (a .d + i)) (a .k * 64) (omega arith) (λ k. known .slice-known2 .given k .fits),
+      none-put W (lit< tt) o (now (a .left)) (a .d) (λ i. row W o (now (a .right)) (a .s + i)) (a .k * W) (omega arith) (λ k. known .before .slice-known .given k .fits),
+      none-put W (lit< tt) o (now (a .right)) (a .s) (λ i. row W o (now (a .left)) (a .d + i)) (a .k * W) (omega arith) (λ k. known .slice-known2 .given k .fits),
     )
 
 add-e : tie.Need-add-e
@@ -27,6 +28,7 @@ add-e c = search needs
 add-f : tie.Need-add-f
 add-f c = search needs
 
+-- asked above 8 bits
 mul-swap-words : tie.Need-mul-swap-words
 mul-swap-words c = search needs
 
@@ -39,6 +41,7 @@ part-swap-words-start c = search needs
 part-swap-words-end : tie.Need-part-swap-words-end
 part-swap-words-end c = search needs
 
+-- asked above 8 bits
 mul-swap-words-2 : tie.Need-mul-swap-words-2
 mul-swap-words-2 c = search needs
 
@@ -68,18 +71,18 @@ returns-2 c =
     let a = start .args in
     let l = now (a .left) in
     let r = now (a .right) in
-    let i = a .d / 64 in
-    let b = a .s / 64 in
+    let i = a .d / W in
+    let b = a .s / W in
     let k = a .k in
     let z = start .pre .0 (omega arith) in
-    let wl : Words 64 l = λ j. known .before .slice-known .given j .fits in
-    let wr : Words 64 r = λ j. known .slice-known2 .given j .fits in
+    let wl : Words W l = λ j. known .before .slice-known .given j .fits in
+    let wr : Words W r = λ j. known .slice-known2 .given j .fits in
     let el = mid-length l i (i + k - i) k (omega arith) (omega arith) in
     λ o. (
-      lent-row 64 (lit< tt) o l (call .swap-words .last .0) i (i + k - i) k (a .d) (omega arith) (omega (arith, z)) (omega arith) wl (call .swap-words .kept .0) r (a .s)
-          (λ j m. call .swap-words .ensures .0 j (omega (arith, m, el)) ∙ part-plain 64 o r b (a .s) wr (omega (arith, z)) (b + k - b) j (omega arith)),
-      lent-row 64 (lit< tt) o r (call .swap-words .last .1 .0) b (b + k - b) k (a .s) (omega arith) (omega (arith, z)) (omega arith) wr (call .swap-words .kept .1 .0) l (a .d)
-          (λ j m. call .swap-words .ensures .1 j (omega (arith, m, el)) ∙ part-plain 64 o l i (a .d) wl (omega (arith, z)) (i + k - i) j (omega arith)),
+      lent-row W (lit< tt) o l (call .swap-words .last .0) i (i + k - i) k (a .d) (omega arith) (omega (arith, z)) (omega arith) wl (call .swap-words .kept .0) r (a .s)
+          (λ j m. call .swap-words .ensures .0 j (omega (arith, m, el)) ∙ part-plain W o r b (a .s) wr (omega (arith, z)) (b + k - b) j (omega arith)),
+      lent-row W (lit< tt) o r (call .swap-words .last .1 .0) b (b + k - b) k (a .s) (omega arith) (omega (arith, z)) (omega arith) wr (call .swap-words .kept .1 .0) l (a .d)
+          (λ j m. call .swap-words .ensures .1 j (omega (arith, m, el)) ∙ part-plain W o l i (a .d) wl (omega (arith, z)) (i + k - i) j (omega arith)),
     )
 
 pub whole-spec : {M : Type 1} → statement M

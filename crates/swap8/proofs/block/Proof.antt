@@ -4,7 +4,8 @@ use native.Mathlib.Omega.{arith}
 use lib.Dec.{lit<}
 use borrow.Author.Needs.{needs}
 use denote.Ref.{now}
-use Rattle.rules.proofs.Scratch.{from-scratch}
+use Rattle.word8.specs.Width.{W}
+use Rattle.laws.proofs.rows.Scratch.{from-scratch}
 use Rattle.swap8.proofs.block.Statement.{statement}
 use Rattle.swap8.proofs.block.Tie as tie
 
@@ -33,7 +34,7 @@ returns c =
     let first = second .before .before .before .before .before in
     let a = first .before .before .before .before .before .before .args in (
       second .copy-row2 .ensures,
-      from-scratch 8 (lit< tt) (a .order) (now (a .scratch)) (now (a .left)) (now (a .right)) (a .d % 8) (a .d) (a .s) (a .n) (omega arith) (first .copy-row .ensures) (third .copy-row3 .ensures),
+      from-scratch W (lit< tt) (a .order) (now (a .scratch)) (now (a .left)) (now (a .right)) (a .d % W) (a .d) (a .s) (a .n) (omega arith) (first .copy-row .ensures) (third .copy-row3 .ensures),
     )
 
 pub block-spec : {M : Type 1} → statement M

@@ -6,18 +6,19 @@ use lib.ListN.{length}
 use lib.Dec.{lit<}
 use borrow.Author.Needs.{needs}
 use denote.Ref.{now}
+use Rattle.word8.specs.Width.{W}
 use Rattle.rules.specs.Positions.{row, spliced}
-use Rattle.rules.proofs.RowPieces.{none-put}
-use Rattle.rules.proofs.Scratch.{step-swap}
+use Rattle.laws.proofs.rows.Part.{none-put}
+use Rattle.laws.proofs.rows.Scratch.{step-swap}
 use Rattle.swap8.proofs.blocks.Statement.{statement}
 use Rattle.swap8.proofs.blocks.Tie as tie
 
 abbrev Inv-loop : tie.InvT-loop
-Inv-loop left₀ order d right₀ s len scratch₀ i₀ left right scratch i = (i ≤ len) × (length left ≡ length left₀) × (length right ≡ length right₀) × (length scratch ≡ length scratch₀)
-    × (left ≡ spliced 8 order left₀ d i (λ j. row 8 order right₀ (s + j))) × (right ≡ spliced 8 order right₀ s i (λ j. row 8 order left₀ (d + j)))
+Inv-loop left₀ order d right₀ s len scratch₀ most i₀ left right scratch i = (i ≤ len) × (length left ≡ length left₀) × (length right ≡ length right₀) × (length scratch ≡ length scratch₀)
+    × (left ≡ spliced W order left₀ d i (λ j. row W order right₀ (s + j))) × (right ≡ spliced W order right₀ s i (λ j. row W order left₀ (d + j)))
 
 abbrev μ-loop : tie.MeasureT-loop
-μ-loop left₀ order d right₀ s len scratch₀ i₀ left right scratch i = len - i
+μ-loop left₀ order d right₀ s len scratch₀ most i₀ left right scratch i = len - i
 
 loop-holds : tie.Need-loop-holds Inv-loop μ-loop
 loop-holds c =
@@ -26,8 +27,8 @@ loop-holds c =
       refl,
       refl,
       refl,
-      none-put 8 (lit< tt) (a .order) (now (a .left)) (a .d) (λ j. row 8 (a .order) (now (a .right)) (a .s + j)) 0 refl (λ k. c .before .before .slice-known .given k .fits),
-      none-put 8 (lit< tt) (a .order) (now (a .right)) (a .s) (λ j. row 8 (a .order) (now (a .left)) (a .d + j)) 0 refl (λ k. c .before .slice-known2 .given k .fits),
+      none-put W (lit< tt) (a .order) (now (a .left)) (a .d) (λ j. row W (a .order) (now (a .right)) (a .s + j)) 0 refl (λ k. c .before .before .slice-known .given k .fits),
+      none-put W (lit< tt) (a .order) (now (a .right)) (a .s) (λ j. row W (a .order) (now (a .left)) (a .d + j)) 0 refl (λ k. c .before .slice-known2 .given k .fits),
     )
 
 sub-least : tie.Need-sub-least Inv-loop μ-loop
@@ -63,9 +64,9 @@ loop-again c =
       omega arith,
       omega arith,
       omega arith,
-      step-swap 8 (lit< tt) (a .order) (now (a .left)) (now (a .right)) (a .d) (a .s) i n (i + n) (λ j. row 8 (a .order) (now (a .left)) (a .d + j)) refl (omega arith)
+      step-swap W (lit< tt) (a .order) (now (a .left)) (now (a .right)) (a .d) (a .s) i n (i + n) (λ j. row W (a .order) (now (a .left)) (a .d + j)) refl (omega arith)
           (turn .loop .inv .4) (turn .loop .inv .5) (call .block .ensures .0),
-      step-swap 8 (lit< tt) (a .order) (now (a .right)) (now (a .left)) (a .s) (a .d) i n (i + n) (λ j. row 8 (a .order) (now (a .right)) (a .s + j)) refl (omega arith)
+      step-swap W (lit< tt) (a .order) (now (a .right)) (now (a .left)) (a .s) (a .d) i n (i + n) (λ j. row W (a .order) (now (a .right)) (a .s + j)) refl (omega arith)
           (turn .loop .inv .5) (turn .loop .inv .4) (call .block .ensures .1),
     )
 
@@ -83,8 +84,8 @@ returns c =
     let turn = c .before in
     let a = turn .before .before .before .before .args in
     let e : turn .loop .i ≡ a .len = omega arith in (
-      turn .loop .inv .4 ∙ ap (λ (n : ℕ). spliced 8 (a .order) (now (a .left)) (a .d) n (λ j. row 8 (a .order) (now (a .right)) (a .s + j))) e,
-      turn .loop .inv .5 ∙ ap (λ (n : ℕ). spliced 8 (a .order) (now (a .right)) (a .s) n (λ j. row 8 (a .order) (now (a .left)) (a .d + j))) e,
+      turn .loop .inv .4 ∙ ap (λ (n : ℕ). spliced W (a .order) (now (a .left)) (a .d) n (λ j. row W (a .order) (now (a .right)) (a .s + j))) e,
+      turn .loop .inv .5 ∙ ap (λ (n : ℕ). spliced W (a .order) (now (a .right)) (a .s) n (λ j. row W (a .order) (now (a .left)) (a .d + j))) e,
     )
 
 pub blocks-spec : {M : Type 1} → statement M

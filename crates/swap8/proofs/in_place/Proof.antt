@@ -5,14 +5,15 @@ use native.Mathlib.Omega.{arith}
 use lib.Dec.{lit<}
 use borrow.Author.Needs.{needs}
 use denote.Ref.{now}
+use Rattle.word8.specs.Width.{W}
 use Rattle.rules.specs.Positions.{row}
-use Rattle.rules.proofs.RowPieces.{last-fits}
-use Rattle.rules.proofs.Scratch.{step-swap}
+use Rattle.laws.proofs.rows.Part.{last-fits}
+use Rattle.laws.proofs.rows.Scratch.{step-swap}
 use Rattle.swap8.proofs.in_place.Statement.{statement}
 use Rattle.swap8.proofs.in_place.Tie as tie
 
 -- equal heads stay so, x places on
-heads-on : (d s x : ℕ) → d % 8 ≡ s % 8 → (d + x) % 8 ≡ (s + x) % 8
+heads-on : (d s x : ℕ) → d % W ≡ s % W → (d + x) % W ≡ (s + x) % W
 heads-on d s x e = omega arith
 
 lead-requires : tie.Need-lead-requires
@@ -55,7 +56,7 @@ piece-requires-2 c κs =
     let at-lead = c .before .before .before .before .before .before .before .before .before .before .before .before .before .before .before .before in
     let a = at-lead .before .before .before .args in
     let r = at-lead .lead .result in
-    (heads-on (a .d) (a .s) (r + (a .len - r) / 8 * 8) (omega arith), last-fits 8 (lit< tt) (a .d) r (a .len) (at-lead .lead .ensures .2) (omega arith), omega arith, omega arith, omega arith, omega arith)
+    (heads-on (a .d) (a .s) (r + (a .len - r) / W * W) (omega arith), last-fits W (lit< tt) (a .d) r (a .len) (at-lead .lead .ensures .2) (omega arith), omega arith, omega arith, omega arith, omega arith)
 
 same-length : tie.Need-same-length
 same-length c = search needs
@@ -74,13 +75,13 @@ returns c =
     let ws = now (a .left) in
     let vs = now (a .right) in
     let r = at-lead .lead .result in
-    let k = (a .len - r) / 8 in
-    let mine : ℕ → ℕ = λ j. row 8 o ws (a .d + j) in
-    let yours : ℕ → ℕ = λ j. row 8 o vs (a .s + j) in
-    let left = step-swap 8 (lit< tt) o ws vs (a .d) (a .s) r (k * 8) (r + k * 8) mine refl (omega arith) (one .piece .ensures .0) (one .piece .ensures .1) (second .whole .ensures o .0) in
-    let right = step-swap 8 (lit< tt) o vs ws (a .s) (a .d) r (k * 8) (r + k * 8) yours refl (omega arith) (one .piece .ensures .1) (one .piece .ensures .0) (second .whole .ensures o .1) in (
-      step-swap 8 (lit< tt) o ws vs (a .d) (a .s) (r + k * 8) (a .len - (r + k * 8)) (a .len) mine (omega arith) (omega arith) left right (third .piece2 .ensures .0),
-      step-swap 8 (lit< tt) o vs ws (a .s) (a .d) (r + k * 8) (a .len - (r + k * 8)) (a .len) yours (omega arith) (omega arith) right left (third .piece2 .ensures .1),
+    let k = (a .len - r) / W in
+    let mine : ℕ → ℕ = λ j. row W o ws (a .d + j) in
+    let yours : ℕ → ℕ = λ j. row W o vs (a .s + j) in
+    let left = step-swap W (lit< tt) o ws vs (a .d) (a .s) r (k * W) (r + k * W) mine refl (omega arith) (one .piece .ensures .0) (one .piece .ensures .1) (second .whole .ensures o .0) in
+    let right = step-swap W (lit< tt) o vs ws (a .s) (a .d) r (k * W) (r + k * W) yours refl (omega arith) (one .piece .ensures .1) (one .piece .ensures .0) (second .whole .ensures o .1) in (
+      step-swap W (lit< tt) o ws vs (a .d) (a .s) (r + k * W) (a .len - (r + k * W)) (a .len) mine (omega arith) (omega arith) left right (third .piece2 .ensures .0),
+      step-swap W (lit< tt) o vs ws (a .s) (a .d) (r + k * W) (a .len - (r + k * W)) (a .len) yours (omega arith) (omega arith) right left (third .piece2 .ensures .1),
     )
 
 pub in-place-spec : {M : Type 1} → statement M

@@ -4,20 +4,21 @@ use native.Mathlib.Omega.{arith}
 use lib.ListN.{length}
 use borrow.Author.Needs.{needs}
 use denote.Ref.{now}
+use Rattle.word8.specs.Width.{W}
 use Rattle.rules.specs.declared.Verdict.the-variants.{Fine}
 use Rattle.rules.specs.Positions.{row}
 use Rattle.rules.specs.Refusals.{verdict, copyCases}
-use Rattle.rules.proofs.Accepted.{Copy, fine-copy}
-use Rattle.rules.proofs.RowCalls.{swap-refused, swap-done}
+use Rattle.rules.proofs.refusals.Accepted.{Copy, fine-copy}
+use Rattle.laws.proofs.rows.RowCalls.{start-in, swap-refused, swap-done}
 use Rattle.swap8.proofs.swap.Statement.{statement}
 use Rattle.swap8.proofs.swap.Tie as tie
-use Rattle.rules.proofs.OneAnswer.{judged}
+use Rattle.rules.proofs.refusals.OneAnswer.{judged}
 
-fine : (c : tie.After-enum-told) → (let a = c .before .before .before .before .before .args in verdict (copyCases 8 (length (now (a .left))) (a .left-span) (length (now (a .right))) (a .right-span)) ≡ Fine)
+fine : (c : tie.After-enum-told) → (let a = c .before .before .before .before .before .args in verdict (copyCases W (length (now (a .left))) (a .left-span) (length (now (a .right))) (a .right-span)) ≡ Fine)
 fine c = sym (judged (c .before .before .check-copy .ensures)) ∙ c .enum-told .given .1
 
-held : (c : tie.After-enum-told) → (let a = c .before .before .before .before .before .args in Copy 8 (length (now (a .left))) (a .left-span) (length (now (a .right))) (a .right-span))
-held c = fine-copy 8 _ _ _ _ (fine c)
+held : (c : tie.After-enum-told) → (let a = c .before .before .before .before .before .args in Copy W (length (now (a .left))) (a .left-span) (length (now (a .right))) (a .right-span))
+held c = fine-copy W _ _ _ _ (fine c)
 
 check-copy-requires : tie.Need-check-copy-requires
 check-copy-requires c κs = search needs
@@ -28,23 +29,25 @@ enum-known-verdict c = search needs
 enum-told : tie.Need-enum-told
 enum-told c = search needs
 
-mul-d : tie.Need-mul-d
-mul-d c = let h = held (c .before) in let p = h .pair in let l = p .left in let r = p .right in omega arith
+start-requires : tie.Need-start-requires
+start-requires c κs = let h = held c in let p = h .pair in let l = p .left in omega arith
 
-add-d : tie.Need-add-d
-add-d c = let h = held (c .before .before) in let p = h .pair in let l = p .left in let r = p .right in omega arith
-
-mul-s : tie.Need-mul-s
-mul-s c = let h = held (c .before .before .before) in let p = h .pair in let l = p .left in let r = p .right in omega arith
-
-add-s : tie.Need-add-s
-add-s c = let h = held (c .before .before .before .before) in let p = h .pair in let l = p .left in let r = p .right in omega arith
+start-requires-2 : tie.Need-start-requires-2
+start-requires-2 c κs = let h = held (c .before) in let p = h .pair in let r = p .right in omega arith
 
 swap-row-requires : tie.Need-swap-row-requires
-swap-row-requires c κs = let h = held (c .before .before .before .before .before .before) in let p = h .pair in let l = p .left in let r = p .right in omega arith
+swap-row-requires c κs =
+    let s = c .before .before in
+    let d = s .before in
+    let h = held (d .before) in
+    let p = h .pair in
+    let l = p .left in
+    let r = p .right in
+    let to = start-in W _ _ l (d .start .ensures .0) in
+    let from = start-in W _ _ r (s .start2 .ensures .0) in omega arith
 
 returns : tie.Need-returns
-returns c = swap-refused 8 _ _ _ _ _ (sym (judged (c .before .before .before .check-copy .ensures)) ∙ c .before .verdict .given .1)
+returns c = swap-refused W _ _ _ _ _ (sym (judged (c .before .before .before .check-copy .ensures)) ∙ c .before .verdict .given .1)
 
 same-length : tie.Need-same-length
 same-length c = search needs
@@ -55,9 +58,12 @@ same-length-2 c = search needs
 returns-2 : tie.Need-returns-2
 returns-2 c =
     let row = c .before .before .before .before in
-    let told = row .before .before .before .before .before .before .before in
+    let s = row .before .before .before in
+    let d = s .before in
+    let told = d .before in
     let a = told .before .before .before .before .before .args in
-    swap-done 8 (now (a .left)) (a .left-span) (now (a .right)) (a .right-span) (fine told) (row .swap-row .ensures .0) (row .swap-row .ensures .1)
+    let swapped = rw (d .start .ensures .0, s .start2 .ensures .0) at (row .swap-row .ensures) in
+    swap-done W (now (a .left)) (a .left-span) (now (a .right)) (a .right-span) (fine told) (swapped .0) (swapped .1)
 
 pub swap-spec : {M : Type 1} → statement M
 swap-spec =
@@ -66,10 +72,8 @@ swap-spec =
     check-copy-requires
     enum-known-verdict
     enum-told
-    mul-d
-    add-d
-    mul-s
-    add-s
+    start-requires
+    start-requires-2
     swap-row-requires
     returns
     same-length

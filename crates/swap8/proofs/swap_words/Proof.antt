@@ -5,7 +5,7 @@ use native.Mathlib.Omega.{arith}
 use lib.ListN.{length, getD, length-set}
 use borrow.Author.Count.{below-none}
 use denote.Ref.{now}
-use Rattle.rules.proofs.Filled.{filled-more, kept-more}
+use Rattle.laws.proofs.rows.Filled.{filled-more, kept-more}
 use Rattle.swap8.proofs.swap_words.Statement.{statement}
 use Rattle.swap8.proofs.swap_words.Tie as tie
 

@@ -4,20 +4,21 @@ use native.Mathlib.Omega.{arith}
 use lib.ListN.{length}
 use borrow.Author.Needs.{needs}
 use denote.Ref.{now}
+use Rattle.word64.specs.Width.{W}
 use Rattle.rules.specs.declared.Verdict.the-variants.{Fine}
 use Rattle.rules.specs.Positions.{row}
 use Rattle.rules.specs.Refusals.{verdict, withinCases}
-use Rattle.rules.proofs.Accepted.{Move, fine-move}
-use Rattle.rules.proofs.RowCalls.{inside-refused, inside-done}
+use Rattle.rules.proofs.refusals.Accepted.{Move, fine-move}
+use Rattle.laws.proofs.rows.RowCalls.{start-in, within-refused, within-done}
 use Rattle.within64.proofs.copy_within.Statement.{statement}
 use Rattle.within64.proofs.copy_within.Tie as tie
-use Rattle.rules.proofs.OneAnswer.{judged}
+use Rattle.rules.proofs.refusals.OneAnswer.{judged}
 
-fine : (c : tie.After-enum-told) → (let a = c .before .before .before .before .args in verdict (withinCases 64 (length (now (a .words))) (a .span) (a .start) (a .count) (a .destination)) ≡ Fine)
+fine : (c : tie.After-enum-told) → (let a = c .before .before .before .before .args in verdict (withinCases W (length (now (a .words))) (a .span) (a .start) (a .count) (a .destination)) ≡ Fine)
 fine c = sym (judged (c .before .before .check-copy-within .ensures)) ∙ c .enum-told .given .1
 
-held : (c : tie.After-enum-told) → (let a = c .before .before .before .before .args in Move 64 (length (now (a .words))) (a .span) (a .start) (a .count) (a .destination))
-held c = fine-move 64 _ _ _ _ _ (fine c)
+held : (c : tie.After-enum-told) → (let a = c .before .before .before .before .args in Move W (length (now (a .words))) (a .span) (a .start) (a .count) (a .destination))
+held c = fine-move W _ _ _ _ _ (fine c)
 
 check-copy-within-requires : tie.Need-check-copy-within-requires
 check-copy-within-requires c κs = search needs
@@ -28,23 +29,20 @@ enum-known-verdict c = search needs
 enum-told : tie.Need-enum-told
 enum-told c = search needs
 
-mul-base : tie.Need-mul-base
-mul-base c = let h = held (c .before) in let l = h .lies in omega arith
-
-add-base : tie.Need-add-base
-add-base c = let h = held (c .before .before) in let l = h .lies in omega arith
+start-requires : tie.Need-start-requires
+start-requires c κs = let h = held c in let l = h .lies in omega arith
 
 add-move-row : tie.Need-add-move-row
-add-move-row c = let h = held (c .before .before .before) in let l = h .lies in omega arith
+add-move-row c = let h = held (c .before .before) in let l = h .lies in let at = start-in W _ _ l (c .before .start .ensures .0) in omega arith
 
 add-move-row-2 : tie.Need-add-move-row-2
-add-move-row-2 c = let h = held (c .before .before .before) in let l = h .lies in omega arith
+add-move-row-2 c = let h = held (c .before .before) in let l = h .lies in let at = start-in W _ _ l (c .before .start .ensures .0) in omega arith
 
 move-row-requires : tie.Need-move-row-requires
-move-row-requires c κs = let h = held (c .before .before .before) in let l = h .lies in omega arith
+move-row-requires c κs = let h = held (c .before .before) in let l = h .lies in let at = start-in W _ _ l (c .before .start .ensures .0) in omega arith
 
 returns : tie.Need-returns
-returns c = inside-refused 64 _ _ _ _ _ _ (sym (judged (c .before .before .before .check-copy-within .ensures)) ∙ c .before .verdict .given .1) refl
+returns c = within-refused W _ _ _ _ _ _ (sym (judged (c .before .before .before .check-copy-within .ensures)) ∙ c .before .verdict .given .1) refl
 
 same-length : tie.Need-same-length
 same-length c = search needs
@@ -52,9 +50,10 @@ same-length c = search needs
 returns-2 : tie.Need-returns-2
 returns-2 c =
     let row = c .before .before in
-    let told = row .before .before .before .before in
+    let base = row .before .before in
+    let told = base .before in
     let a = told .before .before .before .before .args in
-    inside-done 64 (now (a .words)) (a .span) (a .start) (a .count) (a .destination) (fine told) (row .move-row .ensures)
+    within-done W (now (a .words)) (a .span) (a .start) (a .count) (a .destination) (fine told) (rw (base .start .ensures .0) at (row .move-row .ensures))
 
 pub copy-within-spec : {M : Type 1} → statement M
 copy-within-spec =
@@ -63,8 +62,7 @@ copy-within-spec =
     check-copy-within-requires
     enum-known-verdict
     enum-told
-    mul-base
-    add-base
+    start-requires
     add-move-row
     add-move-row-2
     move-row-requires

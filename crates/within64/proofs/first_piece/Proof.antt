@@ -4,18 +4,19 @@ use Prim.Native.Nat.{_+_, _%_}
 use lib.Dec.{lit<}
 use borrow.Author.Needs.{needs}
 use denote.Ref.{now}
+use Rattle.word64.specs.Width.{W}
 use Rattle.rules.specs.Bits.{bitN}
 use Rattle.rules.specs.Positions.{row, position}
 use Rattle.rules.specs.Rows.{moved}
-use Rattle.rules.proofs.Splice.{splice-eq}
-use Rattle.rules.proofs.Scratch.{moved-none}
+use Rattle.rules.proofs.rows.Splice.{splice-eq}
+use Rattle.laws.proofs.rows.Scratch.{moved-none}
 use Rattle.within64.proofs.first_piece.Statement.{statement}
 use Rattle.within64.proofs.first_piece.Tie as tie
 
 returns : tie.Need-returns
 returns c =
     let a = c .before .before .args in
-    moved-none 64 (lit< tt) (a .order) (now (a .words)) (a .from) (a .to) (a .n) (c .if1 .taken) (λ k. c .before .slice-known .given k .fits)
+    moved-none W (lit< tt) (a .order) (now (a .words)) (a .from) (a .to) (a .n) (c .if1 .taken) (λ k. c .before .slice-known .given k .fits)
 
 fetch-requires : tie.Need-fetch-requires
 fetch-requires c κs = search needs
@@ -33,7 +34,7 @@ returns-2 c =
     let at-fetch = at-put .before .before in
     let a = at-fetch .before .before .before .before .args in
     at-put .put .ensures
-    ∙ splice-eq 64 (lit< tt) (a .order) (now (a .words)) (a .to) (a .n) (λ i. bitN (at-fetch .fetch .result) (position 64 (a .order) (a .to % 64 + i))) (λ i. row 64 (a .order) (now (a .words)) (a .from + i))
+    ∙ splice-eq W (lit< tt) (a .order) (now (a .words)) (a .to) (a .n) (λ i. bitN (at-fetch .fetch .result) (position W (a .order) (a .to % W + i))) (λ i. row W (a .order) (now (a .words)) (a .from + i))
     (at-fetch .fetch .ensures)
 
 pub first-piece-spec : {M : Type 1} → statement M

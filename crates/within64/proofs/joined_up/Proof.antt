@@ -6,15 +6,16 @@ use native.Mathlib.Omega.{arith}
 use lib.ListN.{length, length-set}
 use lib.Dec.{lit<}
 use denote.Ref.{now}
+use Rattle.word64.specs.Width.{W}
 use Rattle.rules.specs.Rows.{moved}
-use Rattle.rules.proofs.Moves.{from-funnel}
-use Rattle.rules.proofs.Scratch.{moved-none}
-use Rattle.rules.proofs.InPlace.{moved-at, word-up}
+use Rattle.laws.proofs.words.Moves.{from-funnel}
+use Rattle.laws.proofs.rows.Scratch.{moved-none}
+use Rattle.laws.proofs.rows.InPlace.{moved-at, word-up}
 use Rattle.within64.proofs.joined_up.Statement.{statement}
 use Rattle.within64.proofs.joined_up.Tie as tie
 
 abbrev Inv-loop : tie.InvT-loop
-Inv-loop words₀ order head b a k i₀ words i = (i ≤ k) × (length words ≡ length words₀) × (words ≡ moved 64 order words₀ (b * 64 + head .0) (a * 64) (i * 64))
+Inv-loop words₀ order head b a k i₀ words i = (i ≤ k) × (length words ≡ length words₀) × (words ≡ moved W order words₀ (b * W + head .0) (a * W) (i * W))
 
 abbrev μ-loop : tie.MeasureT-loop
 μ-loop words₀ order head b a k i₀ words i = k - i
@@ -22,11 +23,12 @@ abbrev μ-loop : tie.MeasureT-loop
 loop-holds : tie.Need-loop-holds Inv-loop μ-loop
 loop-holds c =
     let a = c .before .args in
-    (omega arith, refl, moved-none 64 (lit< tt) (a .order) (now (a .words)) (a .b * 64 + a .head .0) (a .a * 64) (0 * 64) (omega arith) (λ j. c .slice-known .given j .fits))
+    (omega arith, refl, moved-none W (lit< tt) (a .order) (now (a .words)) (a .b * W + a .head .0) (a .a * W) (0 * W) (omega arith) (λ j. c .slice-known .given j .fits))
 
 add-joined : tie.Need-add-joined Inv-loop μ-loop
 add-joined c = omega arith
 
+-- asked above 8 bits
 mul-joined : tie.Need-mul-joined Inv-loop μ-loop
 mul-joined c = omega arith
 
@@ -39,6 +41,7 @@ add-joined-2 c = omega arith
 add-joined-3 : tie.Need-add-joined-3 Inv-loop μ-loop
 add-joined-3 c = omega arith
 
+-- asked above 8 bits
 mul-joined-2 : tie.Need-mul-joined-2 Inv-loop μ-loop
 mul-joined-2 c = omega arith
 
@@ -51,6 +54,7 @@ joined-requires c κs = omega arith
 add-words : tie.Need-add-words Inv-loop μ-loop
 add-words c = omega arith
 
+-- asked above 8 bits
 mul-words : tie.Need-mul-words Inv-loop μ-loop
 mul-words c = omega arith
 
@@ -71,8 +75,8 @@ loop-again c =
     let i = turn .loop .i in (
       omega arith,
       simp length-set (turn .loop .inv .1),
-      word-up 64 (lit< tt) (a .order) (now (a .words)) (a .a) (a .b) (a .head .0) i (omega arith) (omega arith) (omega arith) (⊎-elim (λ l. inl (omega arith)) (λ l. inr (omega arith)) (start .pre .4)) (turn .loop .inv .2)
-          (λ w. c .joined .ensures ∙ from-funnel 64 (a .order) (a .head .0) (omega arith) (turn .loop .words) (a .b + i) w),
+      word-up W (lit< tt) (a .order) (now (a .words)) (a .a) (a .b) (a .head .0) i (omega arith) (omega arith) (omega arith) (⊎-elim (λ l. inl (omega arith)) (λ l. inr (omega arith)) (start .pre .4)) (turn .loop .inv .2)
+          (λ w. c .joined .ensures ∙ from-funnel W (a .order) (a .head .0) (omega arith) (turn .loop .words) (a .b + i) w),
     )
 
 same-length : tie.Need-same-length Inv-loop μ-loop
@@ -82,7 +86,7 @@ returns : tie.Need-returns Inv-loop μ-loop
 returns c =
     let turn = c .before in
     let a = turn .before .before .args in
-    turn .loop .inv .2 ∙ moved-at 64 (a .order) (now (a .words)) refl refl (omega arith)
+    turn .loop .inv .2 ∙ moved-at W (a .order) (now (a .words)) refl refl (omega arith)
 
 pub joined-up-spec : {M : Type 1} → statement M
 joined-up-spec =

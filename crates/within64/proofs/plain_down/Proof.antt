@@ -5,17 +5,18 @@ use native.Mathlib.Omega.{arith}
 use lib.ListN.{length, length-set}
 use lib.Dec.{lit<}
 use denote.Ref.{now}
+use Rattle.word64.specs.Width.{W}
 use Rattle.rules.specs.declared.Order.{Order}
 use Rattle.rules.specs.Rows.{moved}
-use Rattle.rules.proofs.Row.{Words}
-use Rattle.rules.proofs.Moves.{from-word}
-use Rattle.rules.proofs.Scratch.{moved-none}
-use Rattle.rules.proofs.InPlace.{moved-at, word-down}
+use Rattle.rules.proofs.rows.Row.{Words}
+use Rattle.laws.proofs.words.Moves.{from-word}
+use Rattle.laws.proofs.rows.Scratch.{moved-none}
+use Rattle.laws.proofs.rows.InPlace.{moved-at, word-down}
 use Rattle.within64.proofs.plain_down.Statement.{statement}
 use Rattle.within64.proofs.plain_down.Tie as tie
 
 abbrev Inv-loop : tie.InvT-loop
-Inv-loop words₀ b a k i₀ words i = (i ≤ k) × (length words ≡ length words₀) × ((o : Order) → Words 64 words₀ → words ≡ moved 64 o words₀ (b * 64 + 0 + i * 64) (a * 64 + i * 64) ((k - i) * 64))
+Inv-loop words₀ b a k i₀ words i = (i ≤ k) × (length words ≡ length words₀) × ((o : Order) → Words W words₀ → words ≡ moved W o words₀ (b * W + 0 + i * W) (a * W + i * W) ((k - i) * W))
 
 abbrev μ-loop : tie.MeasureT-loop
 μ-loop words₀ b a k i₀ words i = i
@@ -23,7 +24,7 @@ abbrev μ-loop : tie.MeasureT-loop
 loop-holds : tie.Need-loop-holds Inv-loop μ-loop
 loop-holds c =
     let a = c .args in
-    (omega arith, refl, (λ o w. moved-none 64 (lit< tt) o (now (a .words)) (a .b * 64 + 0 + a .k * 64) (a .a * 64 + a .k * 64) ((a .k - a .k) * 64) (omega arith) w))
+    (omega arith, refl, (λ o w. moved-none W (lit< tt) o (now (a .words)) (a .b * W + 0 + a .k * W) (a .a * W + a .k * W) ((a .k - a .k) * W) (omega arith) w))
 
 sub-i : tie.Need-sub-i Inv-loop μ-loop
 sub-i c = omega arith
@@ -31,6 +32,7 @@ sub-i c = omega arith
 add-words : tie.Need-add-words Inv-loop μ-loop
 add-words c = omega arith
 
+-- asked above 8 bits
 mul-words : tie.Need-mul-words Inv-loop μ-loop
 mul-words c = omega arith
 
@@ -40,6 +42,7 @@ slice-read-words c = omega arith
 add-words-2 : tie.Need-add-words-2 Inv-loop μ-loop
 add-words-2 c = omega arith
 
+-- asked above 8 bits
 mul-words-2 : tie.Need-mul-words-2 Inv-loop μ-loop
 mul-words-2 c = omega arith
 
@@ -56,8 +59,8 @@ loop-again c =
     let i = turn .loop .i in (
       omega arith,
       simp length-set (turn .loop .inv .1),
-      (λ o w. word-down 64 (lit< tt) o (now (a .words)) (a .a) (a .b) 0 (a .k) (i - 1) i (omega arith) (omega arith) (omega arith) (omega arith) (omega arith) (omega arith) (turn .loop .inv .2 o w)
-          (from-word 64 o (turn .loop .words) (a .b + (i - 1)))),
+      (λ o w. word-down W (lit< tt) o (now (a .words)) (a .a) (a .b) 0 (a .k) (i - 1) i (omega arith) (omega arith) (omega arith) (omega arith) (omega arith) (omega arith) (turn .loop .inv .2 o w)
+          (from-word W o (turn .loop .words) (a .b + (i - 1)))),
     )
 
 same-length : tie.Need-same-length Inv-loop μ-loop
@@ -67,7 +70,7 @@ returns : tie.Need-returns Inv-loop μ-loop
 returns c =
     let turn = c .before in
     let a = turn .before .args in
-    λ o w. turn .loop .inv .2 o w ∙ moved-at 64 o (now (a .words)) (omega arith) (omega arith) (omega arith)
+    λ o w. turn .loop .inv .2 o w ∙ moved-at W o (now (a .words)) (omega arith) (omega arith) (omega arith)
 
 pub plain-down-spec : {M : Type 1} → statement M
 plain-down-spec =

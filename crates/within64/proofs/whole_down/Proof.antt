@@ -5,15 +5,16 @@ use native.Mathlib.Omega.{arith}
 use lib.Dec.{lit<}
 use borrow.Author.Needs.{needs}
 use denote.Ref.{now}
-use Rattle.rules.proofs.Scratch.{moved-none}
-use Rattle.rules.proofs.InPlace.{moved-at}
+use Rattle.word64.specs.Width.{W}
+use Rattle.laws.proofs.rows.Scratch.{moved-none}
+use Rattle.laws.proofs.rows.InPlace.{moved-at}
 use Rattle.within64.proofs.whole_down.Statement.{statement}
 use Rattle.within64.proofs.whole_down.Tie as tie
 
 returns : tie.Need-returns
 returns c =
     let a = c .before .before .args in
-    moved-none 64 (lit< tt) (a .order) (now (a .words)) (a .from) (a .to) (a .k * 64) (omega arith) (λ k. c .before .slice-known .given k .fits)
+    moved-none W (lit< tt) (a .order) (now (a .words)) (a .from) (a .to) (a .k * W) (omega arith) (λ k. c .before .slice-known .given k .fits)
 
 plain-down-requires : tie.Need-plain-down-requires
 plain-down-requires c κs = search needs
@@ -29,7 +30,7 @@ returns-2 c =
     let a = start .args in
     let z = start .pre .0 (omega arith) in
     call .plain-down .ensures (a .order) (λ k. start-known .slice-known .given k .fits)
-    ∙ moved-at 64 (a .order) (now (a .words)) (omega arith) (omega (arith, z)) refl
+    ∙ moved-at W (a .order) (now (a .words)) (omega arith) (omega (arith, z)) refl
 
 add-if3 : tie.Need-add-if3
 add-if3 c = search needs
@@ -46,7 +47,7 @@ returns-3 c =
     let start = call .before .before .before .before .before .before in
     let a = start .args in
     let z = start .pre .0 (omega arith) in
-    call .joined-next .ensures ∙ moved-at 64 (a .order) (now (a .words)) (omega arith) (omega (arith, z)) refl
+    call .joined-next .ensures ∙ moved-at W (a .order) (now (a .words)) (omega arith) (omega (arith, z)) refl
 
 joined-down-requires : tie.Need-joined-down-requires
 joined-down-requires c κs =
@@ -63,7 +64,7 @@ returns-4 c =
     let start = call .before .before .before .before .before .before in
     let a = start .args in
     let z = start .pre .0 (omega arith) in
-    call .joined-down .ensures ∙ moved-at 64 (a .order) (now (a .words)) (omega arith) (omega (arith, z)) refl
+    call .joined-down .ensures ∙ moved-at W (a .order) (now (a .words)) (omega arith) (omega (arith, z)) refl
 
 pub whole-down-spec : {M : Type 1} → statement M
 whole-down-spec =

@@ -6,15 +6,16 @@ use native.Mathlib.Omega.{arith}
 use lib.Dec.{lit<}
 use borrow.Author.Needs.{needs}
 use denote.Ref.{now}
-use Rattle.rules.proofs.Scratch.{moved-none}
-use Rattle.rules.proofs.InPlace.{moved-at}
+use Rattle.word64.specs.Width.{W}
+use Rattle.laws.proofs.rows.Scratch.{moved-none}
+use Rattle.laws.proofs.rows.InPlace.{moved-at}
 use Rattle.within64.proofs.whole_up.Statement.{statement}
 use Rattle.within64.proofs.whole_up.Tie as tie
 
 returns : tie.Need-returns
 returns c =
     let a = c .before .before .args in
-    moved-none 64 (lit< tt) (a .order) (now (a .words)) (a .from) (a .to) (a .k * 64) (omega arith) (λ k. c .before .slice-known .given k .fits)
+    moved-none W (lit< tt) (a .order) (now (a .words)) (a .from) (a .to) (a .k * W) (omega arith) (λ k. c .before .slice-known .given k .fits)
 
 plain-up-requires : tie.Need-plain-up-requires
 plain-up-requires c κs =
@@ -33,7 +34,7 @@ returns-2 c =
     let a = start .args in
     let z = start .pre .0 (omega arith) in
     call .plain-up .ensures (a .order) (λ k. start-known .slice-known .given k .fits)
-    ∙ moved-at 64 (a .order) (now (a .words)) (omega arith) (omega (arith, z)) refl
+    ∙ moved-at W (a .order) (now (a .words)) (omega arith) (omega (arith, z)) refl
 
 joined-up-requires : tie.Need-joined-up-requires
 joined-up-requires c κs =
@@ -50,7 +51,7 @@ returns-3 c =
     let start = call .before .before .before .before .before .before in
     let a = start .args in
     let z = start .pre .0 (omega arith) in
-    call .joined-up .ensures ∙ moved-at 64 (a .order) (now (a .words)) (omega arith) (omega (arith, z)) refl
+    call .joined-up .ensures ∙ moved-at W (a .order) (now (a .words)) (omega arith) (omega (arith, z)) refl
 
 joined-up-requires-2 : tie.Need-joined-up-requires-2
 joined-up-requires-2 c κs =
@@ -67,7 +68,7 @@ returns-4 c =
     let start = call .before .before .before .before .before .before in
     let a = start .args in
     let z = start .pre .0 (omega arith) in
-    call .joined-up2 .ensures ∙ moved-at 64 (a .order) (now (a .words)) (omega arith) (omega (arith, z)) refl
+    call .joined-up2 .ensures ∙ moved-at W (a .order) (now (a .words)) (omega arith) (omega (arith, z)) refl
 
 pub whole-up-spec : {M : Type 1} → statement M
 whole-up-spec =

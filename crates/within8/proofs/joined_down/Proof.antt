@@ -5,15 +5,16 @@ use native.Mathlib.Omega.{arith}
 use lib.ListN.{length, length-set}
 use lib.Dec.{lit<}
 use denote.Ref.{now}
+use Rattle.word8.specs.Width.{W}
 use Rattle.rules.specs.Rows.{moved}
-use Rattle.rules.proofs.Moves.{from-funnel}
-use Rattle.rules.proofs.Scratch.{moved-none}
-use Rattle.rules.proofs.InPlace.{moved-at, word-down}
+use Rattle.laws.proofs.words.Moves.{from-funnel}
+use Rattle.laws.proofs.rows.Scratch.{moved-none}
+use Rattle.laws.proofs.rows.InPlace.{moved-at, word-down}
 use Rattle.within8.proofs.joined_down.Statement.{statement}
 use Rattle.within8.proofs.joined_down.Tie as tie
 
 abbrev Inv-loop : tie.InvT-loop
-Inv-loop words₀ order head b a k i₀ words i = (i ≤ k) × (length words ≡ length words₀) × (words ≡ moved 8 order words₀ (b * 8 + head .0 + i * 8) (a * 8 + i * 8) ((k - i) * 8))
+Inv-loop words₀ order head b a k i₀ words i = (i ≤ k) × (length words ≡ length words₀) × (words ≡ moved W order words₀ (b * W + head .0 + i * W) (a * W + i * W) ((k - i) * W))
 
 abbrev μ-loop : tie.MeasureT-loop
 μ-loop words₀ order head b a k i₀ words i = i
@@ -21,7 +22,7 @@ abbrev μ-loop : tie.MeasureT-loop
 loop-holds : tie.Need-loop-holds Inv-loop μ-loop
 loop-holds c =
     let a = c .before .args in
-    (omega arith, refl, moved-none 8 (lit< tt) (a .order) (now (a .words)) (a .b * 8 + a .head .0 + a .k * 8) (a .a * 8 + a .k * 8) ((a .k - a .k) * 8) (omega arith) (λ j. c .slice-known .given j .fits))
+    (omega arith, refl, moved-none W (lit< tt) (a .order) (now (a .words)) (a .b * W + a .head .0 + a .k * W) (a .a * W + a .k * W) ((a .k - a .k) * W) (omega arith) (λ j. c .slice-known .given j .fits))
 
 sub-i : tie.Need-sub-i Inv-loop μ-loop
 sub-i c = omega arith
@@ -60,8 +61,8 @@ loop-again c =
     let i = turn .loop .i in (
       omega arith,
       simp length-set (turn .loop .inv .1),
-      word-down 8 (lit< tt) (a .order) (now (a .words)) (a .a) (a .b) (a .head .0) (a .k) (i - 1) i (omega arith) (omega arith) (omega arith) (omega arith) (omega arith) (omega arith) (turn .loop .inv .2)
-          (λ w. c .joined .ensures ∙ from-funnel 8 (a .order) (a .head .0) (omega arith) (turn .loop .words) (a .b + (i - 1)) w),
+      word-down W (lit< tt) (a .order) (now (a .words)) (a .a) (a .b) (a .head .0) (a .k) (i - 1) i (omega arith) (omega arith) (omega arith) (omega arith) (omega arith) (omega arith) (turn .loop .inv .2)
+          (λ w. c .joined .ensures ∙ from-funnel W (a .order) (a .head .0) (omega arith) (turn .loop .words) (a .b + (i - 1)) w),
     )
 
 same-length : tie.Need-same-length Inv-loop μ-loop
@@ -71,7 +72,7 @@ returns : tie.Need-returns Inv-loop μ-loop
 returns c =
     let turn = c .before in
     let a = turn .before .before .args in
-    turn .loop .inv .2 ∙ moved-at 8 (a .order) (now (a .words)) (omega arith) (omega arith) (omega arith)
+    turn .loop .inv .2 ∙ moved-at W (a .order) (now (a .words)) (omega arith) (omega arith) (omega arith)
 
 pub joined-down-spec : {M : Type 1} → statement M
 joined-down-spec =

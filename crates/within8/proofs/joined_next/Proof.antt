@@ -6,16 +6,17 @@ use native.Mathlib.Omega.{arith}
 use lib.ListN.{length, getD, set, length-set}
 use lib.Dec.{lit<}
 use denote.Ref.{now}
+use Rattle.word8.specs.Width.{W}
 use Rattle.rules.specs.Rows.{moved}
-use Rattle.rules.proofs.Funnel.{funneled}
-use Rattle.rules.proofs.Moves.{from-funnel}
-use Rattle.rules.proofs.Scratch.{moved-none}
-use Rattle.rules.proofs.InPlace.{moved-at, word-down}
+use Rattle.laws.proofs.words.Funnel.{funneled}
+use Rattle.laws.proofs.words.Moves.{from-funnel}
+use Rattle.laws.proofs.rows.Scratch.{moved-none}
+use Rattle.laws.proofs.rows.InPlace.{moved-at, word-down}
 use Rattle.within8.proofs.joined_next.Statement.{statement}
 use Rattle.within8.proofs.joined_next.Tie as tie
 
 abbrev Inv-loop : tie.InvT-loop
-Inv-loop words₀ order head b k i₀ words i = (i ≤ k) × (length words ≡ length words₀) × (words ≡ moved 8 order words₀ (b * 8 + head .0 + i * 8) ((b + 1) * 8 + i * 8) ((k - i) * 8))
+Inv-loop words₀ order head b k i₀ words i = (i ≤ k) × (length words ≡ length words₀) × (words ≡ moved W order words₀ (b * W + head .0 + i * W) ((b + 1) * W + i * W) ((k - i) * W))
 
 abbrev μ-loop : tie.MeasureT-loop
 μ-loop words₀ order head b k i₀ words i = i
@@ -23,7 +24,7 @@ abbrev μ-loop : tie.MeasureT-loop
 loop-holds : tie.Need-loop-holds Inv-loop μ-loop
 loop-holds c =
     let a = c .before .args in
-    (omega arith, refl, moved-none 8 (lit< tt) (a .order) (now (a .words)) (a .b * 8 + a .head .0 + a .k * 8) ((a .b + 1) * 8 + a .k * 8) ((a .k - a .k) * 8) (omega arith) (λ j. c .slice-known .given j .fits))
+    (omega arith, refl, moved-none W (lit< tt) (a .order) (now (a .words)) (a .b * W + a .head .0 + a .k * W) ((a .b + 1) * W + a .k * W) ((a .k - a .k) * W) (omega arith) (λ j. c .slice-known .given j .fits))
 
 add-at : tie.Need-add-at Inv-loop μ-loop
 add-at c = omega arith
@@ -61,8 +62,8 @@ loop-again c =
       omega arith,
       simp length-set (turn .loop .inv .1),
       ap (λ (x : ℕ). set words x (c .joined .result)) here
-          ∙ word-down 8 (lit< tt) (a .order) (now (a .words)) (a .b + 1) (a .b) (a .head .0) (a .k) (i - 1) i (omega arith) (omega arith) (omega arith) (omega arith) (omega arith) (omega arith) (turn .loop .inv .2)
-          (λ w. c .joined .ensures ∙ ap₂ (λ (x y : ℕ). funneled 8 (a .order) (a .head .0) (getD words x 0) (getD words y 0)) one-before next ∙ from-funnel 8 (a .order) (a .head .0) (omega arith) words (a .b + (i - 1)) w),
+          ∙ word-down W (lit< tt) (a .order) (now (a .words)) (a .b + 1) (a .b) (a .head .0) (a .k) (i - 1) i (omega arith) (omega arith) (omega arith) (omega arith) (omega arith) (omega arith) (turn .loop .inv .2)
+          (λ w. c .joined .ensures ∙ ap₂ (λ (x y : ℕ). funneled W (a .order) (a .head .0) (getD words x 0) (getD words y 0)) one-before next ∙ from-funnel W (a .order) (a .head .0) (omega arith) words (a .b + (i - 1)) w),
     )
 
 same-length : tie.Need-same-length Inv-loop μ-loop
@@ -72,7 +73,7 @@ returns : tie.Need-returns Inv-loop μ-loop
 returns c =
     let turn = c .before in
     let a = turn .before .before .args in
-    turn .loop .inv .2 ∙ moved-at 8 (a .order) (now (a .words)) (omega arith) (omega arith) (omega arith)
+    turn .loop .inv .2 ∙ moved-at W (a .order) (now (a .words)) (omega arith) (omega arith) (omega arith)
 
 pub joined-next-spec : {M : Type 1} → statement M
 joined-next-spec =

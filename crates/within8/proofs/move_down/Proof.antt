@@ -5,9 +5,10 @@ use native.Mathlib.Omega.{arith}
 use lib.Dec.{lit<}
 use borrow.Author.Needs.{needs}
 use denote.Ref.{now}
-use Rattle.rules.proofs.RowPieces.{on-word}
-use Rattle.rules.proofs.Scratch.{step-down}
-use Rattle.rules.proofs.InPlace.{moved-at}
+use Rattle.word8.specs.Width.{W}
+use Rattle.laws.proofs.rows.Part.{on-word}
+use Rattle.laws.proofs.rows.Scratch.{step-down}
+use Rattle.laws.proofs.rows.InPlace.{moved-at}
 use Rattle.within8.proofs.move_down.Statement.{statement}
 use Rattle.within8.proofs.move_down.Tie as tie
 
@@ -37,7 +38,7 @@ last-piece-requires c κs =
     let at-lead = c .before in
     let a = at-lead .before .before .args in
     let r = at-lead .lead .result in
-    ((λ h. on-word 8 (a .to) r ((a .n - r) / 8) (at-lead .lead .ensures .2 (omega arith))), omega arith, omega arith, omega arith, omega arith)
+    ((λ h. on-word W (a .to) r ((a .n - r) / W) (at-lead .lead .ensures .2 (omega arith))), omega arith, omega arith, omega arith, omega arith)
 
 add-whole-down : tie.Need-add-whole-down
 add-whole-down c = search needs
@@ -64,13 +65,13 @@ returns c =
     let at-lead = one .before .before in
     let a = at-lead .before .before .args in
     let r = at-lead .lead .result in
-    let k = (a .n - r) / 8 in
-    let rest = a .n - (r + k * 8) in
-    step-down 8 (lit< tt) (a .order) (now (a .words)) (a .from) (a .to) r (k * 8 + rest) (omega arith) (omega arith) (omega arith)
-    (step-down 8 (lit< tt) (a .order) (now (a .words)) (a .from + r) (a .to + r) (k * 8) rest (omega arith) (omega arith) (omega arith)
-    (one .last-piece .ensures ∙ moved-at 8 (a .order) (now (a .words)) (omega arith) (omega arith) refl) (second .whole-down .ensures))
+    let k = (a .n - r) / W in
+    let rest = a .n - (r + k * W) in
+    step-down W (lit< tt) (a .order) (now (a .words)) (a .from) (a .to) r (k * W + rest) (omega arith) (omega arith) (omega arith)
+    (step-down W (lit< tt) (a .order) (now (a .words)) (a .from + r) (a .to + r) (k * W) rest (omega arith) (omega arith) (omega arith)
+    (one .last-piece .ensures ∙ moved-at W (a .order) (now (a .words)) (omega arith) (omega arith) refl) (second .whole-down .ensures))
     (third .first-piece .ensures)
-    ∙ moved-at 8 (a .order) (now (a .words)) refl refl (omega arith)
+    ∙ moved-at W (a .order) (now (a .words)) refl refl (omega arith)
 
 pub move-down-spec : {M : Type 1} → statement M
 move-down-spec =

@@ -6,9 +6,10 @@ use native.Mathlib.Omega.{arith}
 use lib.Dec.{lit<}
 use borrow.Author.Needs.{needs}
 use denote.Ref.{now}
-use Rattle.rules.proofs.RowPieces.{on-word}
-use Rattle.rules.proofs.Scratch.{step-up}
-use Rattle.rules.proofs.InPlace.{moved-at}
+use Rattle.word8.specs.Width.{W}
+use Rattle.laws.proofs.rows.Part.{on-word}
+use Rattle.laws.proofs.rows.Scratch.{step-up}
+use Rattle.laws.proofs.rows.InPlace.{moved-at}
 use Rattle.within8.proofs.move_up.Statement.{statement}
 use Rattle.within8.proofs.move_up.Tie as tie
 
@@ -53,7 +54,7 @@ last-piece-requires c κs =
     let at-lead = c .before .before .before .before .before .before .before .before .before in
     let a = at-lead .before .before .args in
     let r = at-lead .lead .result in
-    ((λ h. on-word 8 (a .to) r ((a .n - r) / 8) (at-lead .lead .ensures .2 (omega arith))), omega arith, omega arith, omega arith, omega arith)
+    ((λ h. on-word W (a .to) r ((a .n - r) / W) (at-lead .lead .ensures .2 (omega arith))), omega arith, omega arith, omega arith, omega arith)
 
 same-length : tie.Need-same-length
 same-length c = search needs
@@ -67,12 +68,12 @@ returns c =
     let start = at-lead .before .before in
     let a = start .args in
     let r = at-lead .lead .result in
-    let k = (a .n - r) / 8 in
-    let most = r + k * 8 in
-    step-up 8 (lit< tt) (a .order) (now (a .words)) (a .from) (a .to) most (a .n - most) (omega arith) (omega arith) (⊎-elim (λ l. inl l) (λ l. inr (omega arith)) (start .pre .2))
-    (step-up 8 (lit< tt) (a .order) (now (a .words)) (a .from) (a .to) r (k * 8) (omega arith) (omega arith) (⊎-elim (λ l. inl l) (λ l. inr (omega arith)) (start .pre .2)) (one .first-piece .ensures) (second .whole-up .ensures))
+    let k = (a .n - r) / W in
+    let most = r + k * W in
+    step-up W (lit< tt) (a .order) (now (a .words)) (a .from) (a .to) most (a .n - most) (omega arith) (omega arith) (⊎-elim (λ l. inl l) (λ l. inr (omega arith)) (start .pre .2))
+    (step-up W (lit< tt) (a .order) (now (a .words)) (a .from) (a .to) r (k * W) (omega arith) (omega arith) (⊎-elim (λ l. inl l) (λ l. inr (omega arith)) (start .pre .2)) (one .first-piece .ensures) (second .whole-up .ensures))
     (third .last-piece .ensures)
-    ∙ moved-at 8 (a .order) (now (a .words)) refl refl (omega arith)
+    ∙ moved-at W (a .order) (now (a .words)) refl refl (omega arith)
 
 pub move-up-spec : {M : Type 1} → statement M
 move-up-spec =

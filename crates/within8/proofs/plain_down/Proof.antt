@@ -5,17 +5,18 @@ use native.Mathlib.Omega.{arith}
 use lib.ListN.{length, length-set}
 use lib.Dec.{lit<}
 use denote.Ref.{now}
+use Rattle.word8.specs.Width.{W}
 use Rattle.rules.specs.declared.Order.{Order}
 use Rattle.rules.specs.Rows.{moved}
-use Rattle.rules.proofs.Row.{Words}
-use Rattle.rules.proofs.Moves.{from-word}
-use Rattle.rules.proofs.Scratch.{moved-none}
-use Rattle.rules.proofs.InPlace.{moved-at, word-down}
+use Rattle.rules.proofs.rows.Row.{Words}
+use Rattle.laws.proofs.words.Moves.{from-word}
+use Rattle.laws.proofs.rows.Scratch.{moved-none}
+use Rattle.laws.proofs.rows.InPlace.{moved-at, word-down}
 use Rattle.within8.proofs.plain_down.Statement.{statement}
 use Rattle.within8.proofs.plain_down.Tie as tie
 
 abbrev Inv-loop : tie.InvT-loop
-Inv-loop words₀ b a k i₀ words i = (i ≤ k) × (length words ≡ length words₀) × ((o : Order) → Words 8 words₀ → words ≡ moved 8 o words₀ (b * 8 + 0 + i * 8) (a * 8 + i * 8) ((k - i) * 8))
+Inv-loop words₀ b a k i₀ words i = (i ≤ k) × (length words ≡ length words₀) × ((o : Order) → Words W words₀ → words ≡ moved W o words₀ (b * W + 0 + i * W) (a * W + i * W) ((k - i) * W))
 
 abbrev μ-loop : tie.MeasureT-loop
 μ-loop words₀ b a k i₀ words i = i
@@ -23,7 +24,7 @@ abbrev μ-loop : tie.MeasureT-loop
 loop-holds : tie.Need-loop-holds Inv-loop μ-loop
 loop-holds c =
     let a = c .args in
-    (omega arith, refl, (λ o w. moved-none 8 (lit< tt) o (now (a .words)) (a .b * 8 + 0 + a .k * 8) (a .a * 8 + a .k * 8) ((a .k - a .k) * 8) (omega arith) w))
+    (omega arith, refl, (λ o w. moved-none W (lit< tt) o (now (a .words)) (a .b * W + 0 + a .k * W) (a .a * W + a .k * W) ((a .k - a .k) * W) (omega arith) w))
 
 sub-i : tie.Need-sub-i Inv-loop μ-loop
 sub-i c = omega arith
@@ -50,8 +51,8 @@ loop-again c =
     let i = turn .loop .i in (
       omega arith,
       simp length-set (turn .loop .inv .1),
-      (λ o w. word-down 8 (lit< tt) o (now (a .words)) (a .a) (a .b) 0 (a .k) (i - 1) i (omega arith) (omega arith) (omega arith) (omega arith) (omega arith) (omega arith) (turn .loop .inv .2 o w)
-          (from-word 8 o (turn .loop .words) (a .b + (i - 1)))),
+      (λ o w. word-down W (lit< tt) o (now (a .words)) (a .a) (a .b) 0 (a .k) (i - 1) i (omega arith) (omega arith) (omega arith) (omega arith) (omega arith) (omega arith) (turn .loop .inv .2 o w)
+          (from-word W o (turn .loop .words) (a .b + (i - 1)))),
     )
 
 same-length : tie.Need-same-length Inv-loop μ-loop
@@ -61,7 +62,7 @@ returns : tie.Need-returns Inv-loop μ-loop
 returns c =
     let turn = c .before in
     let a = turn .before .args in
-    λ o w. turn .loop .inv .2 o w ∙ moved-at 8 o (now (a .words)) (omega arith) (omega arith) (omega arith)
+    λ o w. turn .loop .inv .2 o w ∙ moved-at W o (now (a .words)) (omega arith) (omega arith) (omega arith)
 
 pub plain-down-spec : {M : Type 1} → statement M
 plain-down-spec =

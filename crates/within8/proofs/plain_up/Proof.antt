@@ -6,17 +6,18 @@ use native.Mathlib.Omega.{arith}
 use lib.ListN.{length, length-set}
 use lib.Dec.{lit<}
 use denote.Ref.{now}
+use Rattle.word8.specs.Width.{W}
 use Rattle.rules.specs.declared.Order.{Order}
 use Rattle.rules.specs.Rows.{moved}
-use Rattle.rules.proofs.Row.{Words}
-use Rattle.rules.proofs.Moves.{from-word}
-use Rattle.rules.proofs.Scratch.{moved-none}
-use Rattle.rules.proofs.InPlace.{moved-at, word-up}
+use Rattle.rules.proofs.rows.Row.{Words}
+use Rattle.laws.proofs.words.Moves.{from-word}
+use Rattle.laws.proofs.rows.Scratch.{moved-none}
+use Rattle.laws.proofs.rows.InPlace.{moved-at, word-up}
 use Rattle.within8.proofs.plain_up.Statement.{statement}
 use Rattle.within8.proofs.plain_up.Tie as tie
 
 abbrev Inv-loop : tie.InvT-loop
-Inv-loop words₀ b a k i₀ words i = (i ≤ k) × (length words ≡ length words₀) × ((o : Order) → Words 8 words₀ → words ≡ moved 8 o words₀ (b * 8 + 0) (a * 8) (i * 8))
+Inv-loop words₀ b a k i₀ words i = (i ≤ k) × (length words ≡ length words₀) × ((o : Order) → Words W words₀ → words ≡ moved W o words₀ (b * W + 0) (a * W) (i * W))
 
 abbrev μ-loop : tie.MeasureT-loop
 μ-loop words₀ b a k i₀ words i = k - i
@@ -24,7 +25,7 @@ abbrev μ-loop : tie.MeasureT-loop
 loop-holds : tie.Need-loop-holds Inv-loop μ-loop
 loop-holds c =
     let a = c .args in
-    (omega arith, refl, (λ o w. moved-none 8 (lit< tt) o (now (a .words)) (a .b * 8 + 0) (a .a * 8) (0 * 8) (omega arith) w))
+    (omega arith, refl, (λ o w. moved-none W (lit< tt) o (now (a .words)) (a .b * W + 0) (a .a * W) (0 * W) (omega arith) w))
 
 add-words : tie.Need-add-words Inv-loop μ-loop
 add-words c = omega arith
@@ -52,8 +53,8 @@ loop-again c =
     let i = turn .loop .i in (
       omega arith,
       simp length-set (turn .loop .inv .1),
-      (λ o w. word-up 8 (lit< tt) o (now (a .words)) (a .a) (a .b) 0 i (omega arith) (omega arith) (omega arith) (⊎-elim (λ l. inl (omega arith)) (λ l. inr (omega arith)) (start .pre .2)) (turn .loop .inv .2 o w)
-          (from-word 8 o (turn .loop .words) (a .b + i))),
+      (λ o w. word-up W (lit< tt) o (now (a .words)) (a .a) (a .b) 0 i (omega arith) (omega arith) (omega arith) (⊎-elim (λ l. inl (omega arith)) (λ l. inr (omega arith)) (start .pre .2)) (turn .loop .inv .2 o w)
+          (from-word W o (turn .loop .words) (a .b + i))),
     )
 
 same-length : tie.Need-same-length Inv-loop μ-loop
@@ -63,7 +64,7 @@ returns : tie.Need-returns Inv-loop μ-loop
 returns c =
     let turn = c .before in
     let a = turn .before .args in
-    λ o w. turn .loop .inv .2 o w ∙ moved-at 8 o (now (a .words)) refl refl (omega arith)
+    λ o w. turn .loop .inv .2 o w ∙ moved-at W o (now (a .words)) refl refl (omega arith)
 
 pub plain-up-spec : {M : Type 1} → statement M
 plain-up-spec =

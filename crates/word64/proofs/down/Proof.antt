@@ -1,6 +1,7 @@
 -- `word64::down` moves a word down along its indexes: to the right under Lsb0, to the left under Msb0.
 use borrow.Author.Needs.{needs}
-use Rattle.rules.proofs.Moves.{down-lsb0, down-msb0}
+use Rattle.word64.specs.Width.{W}
+use Rattle.laws.proofs.words.Moves.{down-lsb0, down-msb0}
 use Rattle.word64.proofs.down.Statement.{statement}
 use Rattle.word64.proofs.down.Tie as tie
 
@@ -17,10 +18,18 @@ shl-result : tie.Need-shl-result
 shl-result c = search needs
 
 returns : tie.Need-returns
-returns c = down-lsb0 64 _ _ _ (search needs)
+returns c = down-lsb0 W _ _ _ (search needs)
 
 returns-2 : tie.Need-returns-2
-returns-2 c = down-msb0 64 _ _ _ (search needs)
+returns-2 c = down-msb0 W _ _ _ (search needs)
 
 pub down-spec : {M : Type 1} → statement M
-down-spec = tie.close (tie.spec enum-told shr-result enum-told-2 shl-result returns returns-2)
+down-spec =
+    tie.close
+    (tie.spec
+    enum-told
+    shr-result
+    enum-told-2
+    shl-result
+    returns
+    returns-2)

@@ -5,7 +5,8 @@ use native.Mathlib.Omega.{arith}
 use lib.Dec.{lit<}
 use borrow.Author.Needs.{needs}
 use denote.Ref.{now}
-use Rattle.rules.proofs.Moves.{fetch-up, fetch-same, fetch-down, fetch-over}
+use Rattle.word64.specs.Width.{W}
+use Rattle.laws.proofs.words.Moves.{fetch-up, fetch-same, fetch-down, fetch-over}
 use Rattle.word64.proofs.fetch.Statement.{statement}
 use Rattle.word64.proofs.fetch.Tie as tie
 
@@ -21,8 +22,9 @@ up-requires c κs = search needs
 returns : tie.Need-returns
 returns c =
     let a = c .before .before .before .before .args in
-    fetch-up 64 (a .order) (now (a .source)) (a .s) (a .head .0) (a .n) (omega arith) (omega arith) (c .up .ensures)
+    fetch-up W (a .order) (now (a .source)) (a .s) (a .head .0) (a .n) (omega arith) (omega arith) (c .up .ensures)
 
+-- asked above 8 bits
 mul-result : tie.Need-mul-result
 mul-result c = search needs
 
@@ -32,7 +34,7 @@ shared-slice-read-result c = search needs
 returns-2 : tie.Need-returns-2
 returns-2 c =
     let a = c .before .before .before .before .args in
-    fetch-same 64 (a .order) (now (a .source)) (a .s) (a .head .0) (a .n) (omega arith) (omega arith) (omega arith) refl
+    fetch-same W (a .order) (now (a .source)) (a .s) (a .head .0) (a .n) (omega arith) (omega arith) (omega arith) refl
 
 add-if3 : tie.Need-add-if3
 add-if3 c = search needs
@@ -40,6 +42,7 @@ add-if3 c = search needs
 add-if3-2 : tie.Need-add-if3-2
 add-if3-2 c = search needs
 
+-- asked above 8 bits
 mul-down : tie.Need-mul-down
 mul-down c = search needs
 
@@ -52,8 +55,9 @@ down-requires c κs = search needs
 returns-3 : tie.Need-returns-3
 returns-3 c =
     let a = c .before .before .before .before .before .before .args in
-    fetch-down 64 (a .order) (now (a .source)) (a .s) (a .head .0) (a .n) (omega arith) (omega arith) (omega arith) (c .down .ensures)
+    fetch-down W (a .order) (now (a .source)) (a .s) (a .head .0) (a .n) (omega arith) (omega arith) (omega arith) (c .down .ensures)
 
+-- asked above 8 bits
 mul-joined : tie.Need-mul-joined
 mul-joined c = search needs
 
@@ -63,6 +67,7 @@ shared-slice-read-joined c = search needs
 add-joined : tie.Need-add-joined
 add-joined c = search needs
 
+-- asked above 8 bits
 mul-joined-2 : tie.Need-mul-joined-2
 mul-joined-2 c = search needs
 
@@ -76,7 +81,7 @@ returns-4 : tie.Need-returns-4
 returns-4 c =
     let known = c .before in
     let a = known .before .before .before .before .before .before .args in
-    fetch-over 64 (a .order) (now (a .source)) (a .s) (a .head .0) (a .n) (omega arith) (omega arith) (lit< tt) (λ k. known .shared-slice-known6 .given k .fits) (c .joined .ensures)
+    fetch-over W (a .order) (now (a .source)) (a .s) (a .head .0) (a .n) (omega arith) (omega arith) (lit< tt) (λ k. known .shared-slice-known6 .given k .fits) (c .joined .ensures)
 
 pub fetch-spec : {M : Type 1} → statement M
 fetch-spec =

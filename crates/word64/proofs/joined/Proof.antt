@@ -1,7 +1,8 @@
 -- `word64::joined` is the funnel of two words, in either order.
 use native.Mathlib.Omega.{arith}
 use borrow.Author.Needs.{needs}
-use Rattle.rules.proofs.Moves.{joined-lsb0, joined-msb0}
+use Rattle.word64.specs.Width.{W}
+use Rattle.laws.proofs.words.Moves.{joined-lsb0, joined-msb0}
 use Rattle.word64.proofs.joined.Statement.{statement}
 use Rattle.word64.proofs.joined.Tie as tie
 
@@ -30,10 +31,10 @@ shr-result-2 : tie.Need-shr-result-2
 shr-result-2 c = search needs
 
 returns : tie.Need-returns
-returns c = joined-lsb0 64 _ _ _ _ _ (omega arith) (search needs)
+returns c = joined-lsb0 W _ _ _ _ _ (omega arith) (search needs)
 
 returns-2 : tie.Need-returns-2
-returns-2 c = joined-msb0 64 _ _ _ _ _ (omega arith) (search needs)
+returns-2 c = joined-msb0 W _ _ _ _ _ (omega arith) (search needs)
 
 pub joined-spec : {M : Type 1} → statement M
 joined-spec =

@@ -1,7 +1,8 @@
 -- `ones`: all ones of the word moved down to n of them, then up to the position. Assumes nothing.
 use borrow.Author.Needs.{needs}
 use native.Mathlib.Omega.{arith}
-use Rattle.rules.proofs.MaskBits.{ones-moved}
+use Rattle.word64.specs.Width.{W}
+use Rattle.rules.proofs.bits.Masks.{ones-moved}
 use Rattle.word64.proofs.ones.Statement.{statement}
 use Rattle.word64.proofs.ones.Tie as tie
 
@@ -15,7 +16,13 @@ shl-moved : tie.Need-shl-moved
 shl-moved c = search needs
 
 returns : tie.Need-returns
-returns c = ones-moved 64 (c .args .lowest .0) (c .args .n) (omega arith)
+returns c = ones-moved W (c .args .lowest .0) (c .args .n) (omega arith)
 
 pub ones-spec : {M : Type 1} → statement M
-ones-spec = tie.close (tie.spec sub-low shr-low shl-moved returns)
+ones-spec =
+    tie.close
+    (tie.spec
+    sub-low
+    shr-low
+    shl-moved
+    returns)

@@ -6,14 +6,16 @@ use lib.ListN.{set}
 use lib.Dec.{lit<}
 use borrow.Author.Needs.{needs}
 use denote.Ref.{now}
+use Rattle.word64.specs.Width.{W}
 use Rattle.rules.specs.Positions.{mask}
-use Rattle.rules.proofs.Merged.{put-piece}
+use Rattle.laws.proofs.words.Merged.{put-piece}
 use Rattle.word64.proofs.put.Statement.{statement}
 use Rattle.word64.proofs.put.Tie as tie
 
 mask-requires : tie.Need-mask-requires
 mask-requires c κs = search needs
 
+-- asked above 8 bits
 mul-select : tie.Need-mul-select
 mul-select c = search needs
 
@@ -23,6 +25,7 @@ slice-read-select c = search needs
 select-requires : tie.Need-select-requires
 select-requires c κs = search needs
 
+-- asked above 8 bits
 mul-words : tie.Need-mul-words
 mul-words c = search needs
 
@@ -37,8 +40,8 @@ returns c =
     let known = c .before in
     let at-mask = known .before in
     let a = at-mask .before .before .args in
-    ap (set (now (a .words)) (a .d / 64)) (c .select .ensures)
-    ∙ put-piece 64 (lit< tt) (a .order) (now (a .words)) (a .d) (a .n) (a .v) (omega arith) (omega arith) (λ k. known .slice-known2 .given k .fits) (at-mask .before .before .fits .v .fits) (at-mask .mask .ensures)
+    ap (set (now (a .words)) (a .d / W)) (c .select .ensures)
+    ∙ put-piece W (lit< tt) (a .order) (now (a .words)) (a .d) (a .n) (a .v) (omega arith) (omega arith) (λ k. known .slice-known2 .given k .fits) (at-mask .before .before .fits .v .fits) (at-mask .mask .ensures)
 
 pub put-spec : {M : Type 1} → statement M
 put-spec =

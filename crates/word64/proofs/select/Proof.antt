@@ -2,7 +2,7 @@
 use borrow.Author.Needs.{needs}
 use mathlib.Core.Path.{ap}
 use lib.Bits.{bitXor}
-use Rattle.rules.proofs.Merged.{selected}
+use Rattle.laws.proofs.words.Merged.{selected}
 use Rattle.word64.proofs.select.Statement.{statement}
 use Rattle.word64.proofs.select.Tie as tie
 

@@ -5,7 +5,8 @@ use native.Mathlib.Omega.{arith}
 use lib.Dec.{lit<}
 use borrow.Author.Needs.{needs}
 use denote.Ref.{now}
-use Rattle.rules.proofs.Moves.{fetch-up, fetch-same, fetch-down, fetch-over}
+use Rattle.word8.specs.Width.{W}
+use Rattle.laws.proofs.words.Moves.{fetch-up, fetch-same, fetch-down, fetch-over}
 use Rattle.word8.proofs.fetch.Statement.{statement}
 use Rattle.word8.proofs.fetch.Tie as tie
 
@@ -21,7 +22,7 @@ up-requires c κs = search needs
 returns : tie.Need-returns
 returns c =
     let a = c .before .before .before .before .args in
-    fetch-up 8 (a .order) (now (a .source)) (a .s) (a .head .0) (a .n) (omega arith) (omega arith) (c .up .ensures)
+    fetch-up W (a .order) (now (a .source)) (a .s) (a .head .0) (a .n) (omega arith) (omega arith) (c .up .ensures)
 
 shared-slice-read-result : tie.Need-shared-slice-read-result
 shared-slice-read-result c = search needs
@@ -29,7 +30,7 @@ shared-slice-read-result c = search needs
 returns-2 : tie.Need-returns-2
 returns-2 c =
     let a = c .before .before .before .before .args in
-    fetch-same 8 (a .order) (now (a .source)) (a .s) (a .head .0) (a .n) (omega arith) (omega arith) (omega arith) refl
+    fetch-same W (a .order) (now (a .source)) (a .s) (a .head .0) (a .n) (omega arith) (omega arith) (omega arith) refl
 
 add-if3 : tie.Need-add-if3
 add-if3 c = search needs
@@ -46,7 +47,7 @@ down-requires c κs = search needs
 returns-3 : tie.Need-returns-3
 returns-3 c =
     let a = c .before .before .before .before .before .before .args in
-    fetch-down 8 (a .order) (now (a .source)) (a .s) (a .head .0) (a .n) (omega arith) (omega arith) (omega arith) (c .down .ensures)
+    fetch-down W (a .order) (now (a .source)) (a .s) (a .head .0) (a .n) (omega arith) (omega arith) (omega arith) (c .down .ensures)
 
 shared-slice-read-joined : tie.Need-shared-slice-read-joined
 shared-slice-read-joined c = search needs
@@ -64,7 +65,7 @@ returns-4 : tie.Need-returns-4
 returns-4 c =
     let known = c .before in
     let a = known .before .before .before .before .before .before .args in
-    fetch-over 8 (a .order) (now (a .source)) (a .s) (a .head .0) (a .n) (omega arith) (omega arith) (lit< tt) (λ k. known .shared-slice-known6 .given k .fits) (c .joined .ensures)
+    fetch-over W (a .order) (now (a .source)) (a .s) (a .head .0) (a .n) (omega arith) (omega arith) (lit< tt) (λ k. known .shared-slice-known6 .given k .fits) (c .joined .ensures)
 
 pub fetch-spec : {M : Type 1} → statement M
 fetch-spec =

@@ -1,7 +1,8 @@
 -- `mask`: the ones from the lowest position of the indexes up, which is that of the first or that of the last. Assumes nothing.
 use borrow.Author.Needs.{needs}
 use native.Mathlib.Omega.{arith}
-use Rattle.rules.proofs.MaskBits.{run-lsb0, run-msb0}
+use Rattle.word8.specs.Width.{W}
+use Rattle.rules.proofs.bits.Masks.{run-lsb0, run-msb0}
 use Rattle.word8.proofs.mask.Statement.{statement}
 use Rattle.word8.proofs.mask.Tie as tie
 
@@ -24,10 +25,10 @@ ones-requires-2 : tie.Need-ones-requires-2
 ones-requires-2 c κs = search needs
 
 returns : tie.Need-returns
-returns c = run-lsb0 8 _ _ (omega arith) (search needs) (c .ones .ensures)
+returns c = run-lsb0 W _ _ (omega arith) (search needs) (c .ones .ensures)
 
 returns-2 : tie.Need-returns-2
-returns-2 c = run-msb0 8 _ _ (omega arith) (search needs) (c .ones2 .ensures)
+returns-2 c = run-msb0 W _ _ (omega arith) (search needs) (c .ones2 .ensures)
 
 pub mask-spec : {M : Type 1} → statement M
 mask-spec =

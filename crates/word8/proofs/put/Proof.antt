@@ -6,8 +6,9 @@ use lib.ListN.{set}
 use lib.Dec.{lit<}
 use borrow.Author.Needs.{needs}
 use denote.Ref.{now}
+use Rattle.word8.specs.Width.{W}
 use Rattle.rules.specs.Positions.{mask}
-use Rattle.rules.proofs.Merged.{put-piece}
+use Rattle.laws.proofs.words.Merged.{put-piece}
 use Rattle.word8.proofs.put.Statement.{statement}
 use Rattle.word8.proofs.put.Tie as tie
 
@@ -31,8 +32,8 @@ returns c =
     let known = c .before in
     let at-mask = known .before in
     let a = at-mask .before .before .args in
-    ap (set (now (a .words)) (a .d / 8)) (c .select .ensures)
-    ∙ put-piece 8 (lit< tt) (a .order) (now (a .words)) (a .d) (a .n) (a .v) (omega arith) (omega arith) (λ k. known .slice-known2 .given k .fits) (at-mask .before .before .fits .v .fits) (at-mask .mask .ensures)
+    ap (set (now (a .words)) (a .d / W)) (c .select .ensures)
+    ∙ put-piece W (lit< tt) (a .order) (now (a .words)) (a .d) (a .n) (a .v) (omega arith) (omega arith) (λ k. known .slice-known2 .given k .fits) (at-mask .before .before .fits .v .fits) (at-mask .mask .ensures)
 
 pub put-spec : {M : Type 1} → statement M
 put-spec =

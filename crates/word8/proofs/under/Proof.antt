@@ -5,6 +5,7 @@ use lib.Bits.{and-le-l}
 use Rattle.word8.proofs.under.Statement.{statement}
 use Rattle.word8.proofs.under.Tie as tie
 
+-- asked below 64 bits
 cast-result : tie.Need-cast-result
 cast-result c = omega (arith, and-le-l (c .before .args .x) (c .before .args .m .0))
 

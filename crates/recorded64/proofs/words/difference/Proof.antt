@@ -17,6 +17,7 @@ loop-holds c = omega arith
 word-of-requires : tie.Need-word-of-requires Inv-loop μ-loop
 word-of-requires c κs = tt
 
+-- asked above 8 bits
 mul-given : tie.Need-mul-given Inv-loop μ-loop
 mul-given c = omega arith
 

@@ -18,6 +18,7 @@ loop-holds c = (omega arith, refl)
 word-of-requires : tie.Need-word-of-requires Inv-loop μ-loop
 word-of-requires c κs = tt
 
+-- asked above 8 bits
 mul-words : tie.Need-mul-words Inv-loop μ-loop
 mul-words c = omega arith
 

@@ -4,30 +4,31 @@ use native.Mathlib.Omega.{arith}
 use mathlib.Core.Path.{_≡_}
 use Prim.Native.Nat.{ℕ, min, _+_, _-_, _*_, _≤_, _<_}
 use lib.Dec.{lit<}
-use Rattle.rules.proofs.RowSearch.{last-at-most, last-frame}
+use Rattle.word64.specs.Width.{W}
+use Rattle.laws.proofs.searches.RowSearch.{last-at-most, last-frame}
 use Rattle.search64.proofs.backward.last_further.Statement.{statement}
 use Rattle.search64.proofs.backward.last_further.Tie as tie
 
 -- where the pieces lie: i of the m bits before word e come before word j, and the last n of these in word j - 1
 record Pieces (word head m j i n : ℕ) : Type 0 where
-  to : j * 64 ≡ word * 64 + head + i
+  to : j * W ≡ word * W + head + i
   upto : i ≤ m
   parts : i - n + n ≡ i
-  at : (j - 1) * 64 + (64 - n) ≡ word * 64 + head + (i - n)
-  whole : word + 1 < j → n ≡ 64
+  at : (j - 1) * W + (W - n) ≡ word * W + head + (i - n)
+  whole : word + 1 < j → n ≡ W
   first : j ≤ word + 1 → i - n ≡ 0
 
-module _ (word head e m j n : ℕ) (small : head < 64) (ends : e * 64 ≡ word * 64 + head + m) (lo : word + 1 ≤ j) (hi : j ≤ e) where
+module _ (word head e m j n : ℕ) (small : head < W) (ends : e * W ≡ word * W + head + m) (lo : word + 1 ≤ j) (hi : j ≤ e) where
   abbrev before : ℕ
-  before = m - (e - j) * 64
+  before = m - (e - j) * W
 
-  at-word : j * 64 ≡ word * 64 + head + before
+  at-word : j * W ≡ word * W + head + before
   at-word = omega arith
 
-  place : (i : ℕ) → j * 64 ≡ word * 64 + head + i → i ≤ m → n ≡ min i 64 → Pieces word head m j i n
+  place : (i : ℕ) → j * W ≡ word * W + head + i → i ≤ m → n ≡ min i W → Pieces word head m j i n
   place i to upto en = record { to = to; upto = upto; parts = omega arith; at = omega arith; whole = λ l. omega arith; first = λ l. omega arith }
 
-  pieces : n ≡ min before 64 → Pieces word head m j before n
+  pieces : n ≡ min before W → Pieces word head m j before n
   pieces en = place before at-word (omega arith) en
 
 add-skip-down : tie.Need-add-skip-down
@@ -77,8 +78,8 @@ returns c =
     let j = at-skip .skip-down .result in
     let n = at-least .least .result in
     let p = pieces (a .word) (a .head .0) (a .e) (a .m) j n (start .pre .0) (start .pre .2) (at-skip .skip-down .ensures .0) (at-skip .skip-down .ensures .1) (at-least .least .ensures) in
-    last-frame 64 (lit< tt) (a .order) (a .words .now) (λ k. known .shared-slice-known .given k .fits) (a .sought) (a .word * 64 + a .head .0) (a .word + 1) (a .e) j
-    (a .m - (a .e - j) * 64) n (a .m) (at-flip .flip .result) (at-flip .flip .ensures) (at-skip .skip-down .ensures .2) (at-skip .skip-down .ensures .3)
+    last-frame W (lit< tt) (a .order) (a .words .now) (λ k. known .shared-slice-known .given k .fits) (a .sought) (a .word * W + a .head .0) (a .word + 1) (a .e) j
+    (a .m - (a .e - j) * W) n (a .m) (at-flip .flip .result) (at-flip .flip .ensures) (at-skip .skip-down .ensures .2) (at-skip .skip-down .ensures .3)
     (start .pre .2) (p .to) (p .upto) (p .parts) (p .at) (p .whole) (p .first) (c .last-in-word .ensures)
 
 pub last-further-spec : {M : Type 1} → statement M

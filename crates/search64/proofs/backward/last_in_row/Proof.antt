@@ -2,7 +2,8 @@
 use borrow.Author.Needs.{needs}
 use native.Mathlib.Omega.{arith}
 use Prim.Native.Nat.{_+_, _-_, _*_, _/_, _%_}
-use Rattle.rules.proofs.RowSearch.{last-sooner, last-at-most, last-further}
+use Rattle.word64.specs.Width.{W}
+use Rattle.laws.proofs.searches.RowSearch.{last-sooner, last-at-most, last-further}
 use Rattle.search64.proofs.backward.last_in_row.Statement.{statement}
 use Rattle.search64.proofs.backward.last_in_row.Tie as tie
 
@@ -32,8 +33,8 @@ returns-2 c =
     let at-word = c .before in
     let known = at-word .before .before in
     let a = known .before .args in
-    let t = (a .head .0 + a .len) % 64 in
-    last-sooner 64 (a .order) (a .words .now) (a .sought) (a .word * 64 + a .head .0) (a .len) (a .len - t) t ((a .word + (a .head .0 + a .len) / 64) * 64 + 0)
+    let t = (a .head .0 + a .len) % W in
+    last-sooner W (a .order) (a .words .now) (a .sought) (a .word * W + a .head .0) (a .len) (a .len - t) t ((a .word + (a .head .0 + a .len) / W) * W + 0)
     (omega arith) (omega arith) (at-word .last-in-word2 .ensures) (c .if2 .taken)
 
 last-further-requires : tie.Need-last-further-requires
@@ -48,8 +49,8 @@ returns-3 c =
     let at-word = at-if .before .before in
     let known = at-word .before .before in
     let a = known .before .args in
-    let t = (a .head .0 + a .len) % 64 in
-    last-further 64 (a .order) (a .words .now) (a .sought) (a .word * 64 + a .head .0) (a .len) (a .len - t) t ((a .word + (a .head .0 + a .len) / 64) * 64 + 0)
+    let t = (a .head .0 + a .len) % W in
+    last-further W (a .order) (a .words .now) (a .sought) (a .word * W + a .head .0) (a .len) (a .len - t) t ((a .word + (a .head .0 + a .len) / W) * W + 0)
     (omega arith) (omega arith) (at-word .last-in-word2 .ensures) (at-if .before .if2 .left) (at-if .if3 .taken) (c .last-further .ensures)
 
 returns-4 : tie.Need-returns-4
@@ -58,8 +59,8 @@ returns-4 c =
     let at-word = at-if .before .before in
     let known = at-word .before .before in
     let a = known .before .args in
-    let t = (a .head .0 + a .len) % 64 in
-    last-further 64 (a .order) (a .words .now) (a .sought) (a .word * 64 + a .head .0) (a .len) (a .len - t) t ((a .word + (a .head .0 + a .len) / 64) * 64 + 0)
+    let t = (a .head .0 + a .len) % W in
+    last-further W (a .order) (a .words .now) (a .sought) (a .word * W + a .head .0) (a .len) (a .len - t) t ((a .word + (a .head .0 + a .len) / W) * W + 0)
     (omega arith) (omega arith) (at-word .last-in-word2 .ensures) (at-if .before .if2 .left) (at-if .if3 .left) (c .last-further2 .ensures)
 
 pub last-in-row-spec : {M : Type 1} → statement M

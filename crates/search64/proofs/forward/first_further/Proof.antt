@@ -3,7 +3,8 @@ use borrow.Author.Needs.{needs}
 use native.Mathlib.Omega.{arith}
 use Prim.Native.Nat.{_+_, _-_, _*_, _/_}
 use lib.Dec.{lit<}
-use Rattle.rules.proofs.RowSearch.{first-at-most, first-frame}
+use Rattle.word64.specs.Width.{W}
+use Rattle.laws.proofs.searches.RowSearch.{first-at-most, first-frame}
 use Rattle.search64.proofs.forward.first_further.Statement.{statement}
 use Rattle.search64.proofs.forward.first_further.Tie as tie
 
@@ -42,7 +43,7 @@ returns c =
     let known = at-flip .before in
     let a = known .before .args in
     let j = at-skip .skip-up .result in
-    first-frame 64 (lit< tt) (a .order) (a .words .now) (λ k. known .shared-slice-known .given k .fits) (a .sought) (a .a) (a .a + a .len / 64) j ((j - a .a) * 64)
+    first-frame W (lit< tt) (a .order) (a .words .now) (λ k. known .shared-slice-known .given k .fits) (a .sought) (a .a) (a .a + a .len / W) j ((j - a .a) * W)
     (at-least .least .result) (a .len) (at-flip .flip .result) (at-flip .flip .ensures) (at-skip .skip-up .ensures .2) (at-skip .skip-up .ensures .3)
     (omega arith) (omega arith) (λ l. omega arith) (λ l. omega arith) (c .first-in-word .ensures)
 

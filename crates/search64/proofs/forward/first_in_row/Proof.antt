@@ -2,7 +2,8 @@
 use borrow.Author.Needs.{needs}
 use native.Mathlib.Omega.{arith}
 use Prim.Native.Nat.{_+_, _-_, _*_}
-use Rattle.rules.proofs.RowSearch.{first-whole, first-sooner, first-at-most, first-further}
+use Rattle.word64.specs.Width.{W}
+use Rattle.laws.proofs.searches.RowSearch.{first-whole, first-sooner, first-at-most, first-further}
 use Rattle.search64.proofs.forward.first_in_row.Statement.{statement}
 use Rattle.search64.proofs.forward.first_in_row.Tie as tie
 
@@ -53,7 +54,7 @@ returns-3 c =
     let at-word = at-if .before .before .before in
     let a = at-word .before .before .before .args in
     let t = at-word .before .least .result in
-    first-further 64 (a .order) (a .words .now) (a .sought) (a .word * 64 + a .head .0) (a .len) t (a .len - t) ((a .word + 1) * 64)
+    first-further W (a .order) (a .words .now) (a .sought) (a .word * W + a .head .0) (a .len) t (a .len - t) ((a .word + 1) * W)
     (at-word .first-in-word .ensures) (at-if .before .if2 .left) (omega arith) (omega arith) (at-if .if3 .taken) (c .first-further .ensures)
 
 returns-4 : tie.Need-returns-4
@@ -62,7 +63,7 @@ returns-4 c =
     let at-word = at-if .before .before .before in
     let a = at-word .before .before .before .args in
     let t = at-word .before .least .result in
-    first-further 64 (a .order) (a .words .now) (a .sought) (a .word * 64 + a .head .0) (a .len) t (a .len - t) ((a .word + 1) * 64)
+    first-further W (a .order) (a .words .now) (a .sought) (a .word * W + a .head .0) (a .len) t (a .len - t) ((a .word + 1) * W)
     (at-word .first-in-word .ensures) (at-if .before .if2 .left) (omega arith) (omega arith) (at-if .if3 .left) (c .first-further2 .ensures)
 
 pub first-in-row-spec : {M : Type 1} → statement M

@@ -1,7 +1,8 @@
 -- `first_in_word`: the first one of the masked word, or none. Assumes nothing.
 use borrow.Author.Needs.{needs}
 use native.Mathlib.Omega.{arith}
-use Rattle.rules.proofs.WordSearch.{first-past, first-some, first-none, first-of-none}
+use Rattle.word64.specs.Width.{W}
+use Rattle.laws.proofs.searches.WordSearch.{first-past, first-some, first-none, first-of-none}
 use Rattle.search64.proofs.forward.first_in_word.Statement.{statement}
 use Rattle.search64.proofs.forward.first_in_word.Tie as tie
 
@@ -18,19 +19,19 @@ sub-result : tie.Need-sub-result
 sub-result c =
     let at-call = c .before in
     let a = at-call .before .before .before .before .args in
-    omega (arith, first-past 64 (a .order) (a .words .now) (a .sought) (a .k) (a .head .0) (a .n) (omega arith) (at-call .before .sought-in .ensures) (at-call .zeros-end .result .0) (at-call .zeros-end .ensures) (omega arith))
+    omega (arith, first-past W (a .order) (a .words .now) (a .sought) (a .k) (a .head .0) (a .n) (omega arith) (at-call .before .sought-in .ensures) (at-call .zeros-end .result .0) (at-call .zeros-end .ensures) (omega arith))
 
 returns-2 : tie.Need-returns-2
 returns-2 c =
     let at-call = c .before in
     let a = at-call .before .before .before .before .args in
-    first-some 64 (a .order) (a .words .now) (a .sought) (a .k) (a .head .0) (a .n) (omega arith) (at-call .before .sought-in .ensures) (at-call .zeros-end .result .0) (at-call .zeros-end .ensures) (omega arith)
+    first-some W (a .order) (a .words .now) (a .sought) (a .k) (a .head .0) (a .n) (omega arith) (at-call .before .sought-in .ensures) (at-call .zeros-end .result .0) (at-call .zeros-end .ensures) (omega arith)
 
 returns-3 : tie.Need-returns-3
 returns-3 c =
     let at-call = c .before in
     let a = at-call .before .before .before .before .args in
-    first-none 64 (a .order) (a .words .now) (a .sought) (a .k) (a .head .0) (a .n) (omega arith) (at-call .before .sought-in .ensures) (at-call .zeros-end .result .0) (at-call .zeros-end .ensures) (omega arith)
+    first-none W (a .order) (a .words .now) (a .sought) (a .k) (a .head .0) (a .n) (omega arith) (at-call .before .sought-in .ensures) (at-call .zeros-end .result .0) (at-call .zeros-end .ensures) (omega arith)
 
 pub first-in-word-spec : {M : Type 1} → statement M
 first-in-word-spec =

@@ -2,7 +2,7 @@
 use native.Mathlib.Omega.{arith}
 use Prim.Native.Nat.{_-_, _≤_}
 use lib.ListN.{length}
-use Rattle.rules.proofs.Alike.{Gathered, gathered-none, gathered-more}
+use Rattle.laws.proofs.searches.Alike.{Gathered, gathered-none, gathered-more}
 use mathlib.Core.Path.{_≡_}
 use Rattle.search64.proofs.leaves.gather.Statement.{statement}
 use Rattle.search64.proofs.leaves.gather.Tie as tie
@@ -16,6 +16,7 @@ abbrev μ-loop : tie.MeasureT-loop
 loop-holds : tie.Need-loop-holds Inv-loop μ-loop
 loop-holds c = (omega arith, gathered-none (c .args .f) (c .args .words .now))
 
+-- asked above 8 bits
 mul-v : tie.Need-mul-v Inv-loop μ-loop
 mul-v c = omega arith
 

@@ -1,7 +1,7 @@
 -- `pass_up`: the words passed are f, and the block that stops it is not. Assumes nothing.
 use native.Mathlib.Omega.{arith}
 use Prim.Native.Nat.{_+_, _-_, _≤_}
-use Rattle.rules.proofs.Alike.{Alike, alike-none, alike-join, block-alike, block-other}
+use Rattle.laws.proofs.searches.Alike.{Alike, alike-none, alike-join, block-alike, block-other}
 use Rattle.search64.proofs.leaves.pass_up.Statement.{statement}
 use Rattle.search64.proofs.leaves.pass_up.Tie as tie
 
@@ -20,6 +20,7 @@ sub-loop c = omega arith
 add-j : tie.Need-add-j Inv-loop μ-loop
 add-j c = omega arith
 
+-- asked above 8 bits
 mul-gather : tie.Need-mul-gather Inv-loop μ-loop
 mul-gather c = omega arith
 

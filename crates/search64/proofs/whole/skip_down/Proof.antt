@@ -2,7 +2,7 @@
 use borrow.Author.Needs.{needs}
 use native.Mathlib.Omega.{arith}
 use Prim.Native.Nat.{_-_}
-use Rattle.rules.proofs.Alike.{alike-join, alike-one}
+use Rattle.laws.proofs.searches.Alike.{alike-join, alike-one}
 use Rattle.search64.proofs.whole.skip_down.Statement.{statement}
 use Rattle.search64.proofs.whole.skip_down.Tie as tie
 

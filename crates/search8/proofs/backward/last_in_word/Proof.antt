@@ -1,7 +1,8 @@
 -- `last_in_word`: the last one of the masked word, or none. Assumes nothing.
 use borrow.Author.Needs.{needs}
 use native.Mathlib.Omega.{arith}
-use Rattle.rules.proofs.WordSearch.{last-past, last-some, last-none, last-of-none}
+use Rattle.word8.specs.Width.{W}
+use Rattle.laws.proofs.searches.WordSearch.{last-past, last-some, last-none, last-of-none}
 use Rattle.search8.proofs.backward.last_in_word.Statement.{statement}
 use Rattle.search8.proofs.backward.last_in_word.Tie as tie
 
@@ -18,19 +19,19 @@ sub-result : tie.Need-sub-result
 sub-result c =
     let at-call = c .before in
     let a = at-call .before .before .before .before .args in
-    omega (arith, last-past 8 (a .order) (a .words .now) (a .sought) (a .k) (a .head .0) (a .n) (omega arith) (at-call .before .sought-in .ensures) (at-call .last-end .result .0) (at-call .last-end .ensures) (omega arith))
+    omega (arith, last-past W (a .order) (a .words .now) (a .sought) (a .k) (a .head .0) (a .n) (omega arith) (at-call .before .sought-in .ensures) (at-call .last-end .result .0) (at-call .last-end .ensures) (omega arith))
 
 returns-2 : tie.Need-returns-2
 returns-2 c =
     let at-call = c .before in
     let a = at-call .before .before .before .before .args in
-    last-none 8 (a .order) (a .words .now) (a .sought) (a .k) (a .head .0) (a .n) (omega arith) (at-call .before .sought-in .ensures) (at-call .last-end .result .0) (at-call .last-end .ensures) (omega arith)
+    last-none W (a .order) (a .words .now) (a .sought) (a .k) (a .head .0) (a .n) (omega arith) (at-call .before .sought-in .ensures) (at-call .last-end .result .0) (at-call .last-end .ensures) (omega arith)
 
 returns-3 : tie.Need-returns-3
 returns-3 c =
     let at-call = c .before in
     let a = at-call .before .before .before .before .args in
-    last-some 8 (a .order) (a .words .now) (a .sought) (a .k) (a .head .0) (a .n) (omega arith) (at-call .before .sought-in .ensures) (at-call .last-end .result .0) (at-call .last-end .ensures) (omega arith)
+    last-some W (a .order) (a .words .now) (a .sought) (a .k) (a .head .0) (a .n) (omega arith) (at-call .before .sought-in .ensures) (at-call .last-end .result .0) (at-call .last-end .ensures) (omega arith)
 
 pub last-in-word-spec : {M : Type 1} → statement M
 last-in-word-spec =

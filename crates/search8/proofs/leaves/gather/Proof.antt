@@ -2,7 +2,7 @@
 use native.Mathlib.Omega.{arith}
 use Prim.Native.Nat.{_-_, _≤_}
 use lib.ListN.{length}
-use Rattle.rules.proofs.Alike.{Gathered, gathered-none, gathered-more}
+use Rattle.laws.proofs.searches.Alike.{Gathered, gathered-none, gathered-more}
 use mathlib.Core.Path.{_≡_}
 use Rattle.search8.proofs.leaves.gather.Statement.{statement}
 use Rattle.search8.proofs.leaves.gather.Tie as tie

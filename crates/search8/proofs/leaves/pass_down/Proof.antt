@@ -1,7 +1,7 @@
 -- `pass_down`: the words passed are f, and the block that stops it is not. Assumes nothing.
 use native.Mathlib.Omega.{arith}
 use Prim.Native.Nat.{_-_, _≤_}
-use Rattle.rules.proofs.Alike.{Alike, alike-none, alike-join, block-alike, block-other}
+use Rattle.laws.proofs.searches.Alike.{Alike, alike-none, alike-join, block-alike, block-other}
 use Rattle.search8.proofs.leaves.pass_down.Statement.{statement}
 use Rattle.search8.proofs.leaves.pass_down.Tie as tie
 

@@ -2,7 +2,8 @@
 use borrow.Author.Needs.{needs}
 use mathlib.Core.Path.{_∙_}
 use lib.ListN.{getD}
-use Rattle.rules.proofs.WordSearch.{masked-by}
+use Rattle.word8.specs.Width.{W}
+use Rattle.laws.proofs.searches.WordSearch.{masked-by}
 use Rattle.search8.proofs.leaves.sought_in.Statement.{statement}
 use Rattle.search8.proofs.leaves.sought_in.Tie as tie
 
@@ -23,9 +24,14 @@ returns c =
     let at-mask = c .before .before in
     let a = at-mask .before .before .before .args in
     c .under .ensures
-    ∙ masked-by 8 (a .order) (a .sought) (getD (a .words .now) (a .k) 0) (a .head .0) (a .n) (at-mask .before .flip .ensures) (at-mask .mask .ensures)
+    ∙ masked-by W (a .order) (a .sought) (getD (a .words .now) (a .k) 0) (a .head .0) (a .n) (at-mask .before .flip .ensures) (at-mask .mask .ensures)
 
 pub sought-in-spec : {M : Type 1} → statement M
 sought-in-spec =
     tie.close
-    (tie.spec flip-requires mask-requires shared-slice-read-x under-requires returns)
+    (tie.spec
+    flip-requires
+    mask-requires
+    shared-slice-read-x
+    under-requires
+    returns)

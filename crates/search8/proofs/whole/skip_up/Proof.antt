@@ -2,7 +2,7 @@
 use borrow.Author.Needs.{needs}
 use native.Mathlib.Omega.{arith}
 use mathlib.Core.Path.{refl}
-use Rattle.rules.proofs.Alike.{alike-join, alike-one}
+use Rattle.laws.proofs.searches.Alike.{alike-join, alike-one}
 use Rattle.search8.proofs.whole.skip_up.Statement.{statement}
 use Rattle.search8.proofs.whole.skip_up.Tie as tie
 

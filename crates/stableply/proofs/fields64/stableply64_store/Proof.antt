@@ -1,8 +1,8 @@
 -- `stableply64_store`: a code that is none gives 255; else the promise is that of the call behind it, the arguments named.
 use borrow.Author.Needs.{needs}
 use borrow.Author.Tests.{lt-ltb, le-ltb}
-use Rattle.stableply.proofs.Naming.{first-none, later-none, all-named}
-use Rattle.stableply.proofs.Crossing.{wrote-stopped, wrote}
+use Rattle.border.proofs.Naming.{first-none, later-none, all-named}
+use Rattle.border.proofs.Crossing.{wrote-stopped, wrote}
 use Rattle.stableply.proofs.fields64.stableply64_store.Statement.{statement}
 use Rattle.stableply.proofs.fields64.stableply64_store.Tie as tie
 
@@ -42,7 +42,7 @@ same-length c = search needs
 returns-5 : tie.Need-returns-5
 returns-5 c =
     let h = rw (c .before .before .before .before .before .before .before .before .span-of .ensures, c .before .before .before .before .before .before .before .significance-of .ensures, c .before .before .before .before .before .before .sign-of .ensures, c .before .before .before .before .before .number-of .ensures) at (c .before .before .before .store .ensures) in
-    wrote _ _ _ (all-named _ _ (c .before .before .before .before .before .before .before .before .before .before .before .before .if1 .left) (all-named _ _ (c .before .before .before .before .before .before .before .before .before .before .before .if2 .left) (all-named _ _ (c .before .before .before .before .before .before .before .before .before .before .if3 .left) (le-ltb _ _ (c .before .before .before .before .before .before .before .before .before .if4 .left))))) (c .leave-write .ensures) (h .answers) (h .holds)
+    wrote _ _ _ (all-named _ _ (c .before .before .before .before .before .before .before .before .before .before .before .before .if1 .left) (all-named _ _ (c .before .before .before .before .before .before .before .before .before .before .before .if2 .left) (all-named _ _ (c .before .before .before .before .before .before .before .before .before .before .if3 .left) (le-ltb _ _ (c .before .before .before .before .before .before .before .before .before .if4 .left))))) (c .leave-write .ensures) h
 
 pub stableply64-store-spec : {M : Type 1} → statement M
 stableply64-store-spec =

@@ -1,7 +1,7 @@
 -- `stableply8_read_bit`: a code that is none gives 255; else the promise is that of the call behind it, the arguments named.
 use borrow.Author.Needs.{needs}
 use borrow.Author.Tests.{lt-ltb, le-ltb}
-use Rattle.stableply.proofs.Crossing.{told-stopped, told}
+use Rattle.border.proofs.Crossing.{told-stopped, told}
 use Rattle.stableply.proofs.fields8.stableply8_read_bit.Statement.{statement}
 use Rattle.stableply.proofs.fields8.stableply8_read_bit.Tie as tie
 

@@ -9,13 +9,13 @@ use Rattle.rules.specs.declared.Verdict.{Verdict}
 use Rattle.rules.specs.declared.Verdict.the-variants.{Fine}
 use Rattle.rules.specs.Fields.{whole}
 use Rattle.rules.specs.Refusals.{verdict, storeStrictCases}
-use Rattle.rules.proofs.FieldCalls.{strict-refused, strict-by-store}
-use Rattle.stableply.specs.Border.{spanOf, significanceOf, signOf, numberOf, none}
-use Rattle.stableply.proofs.Naming.{first-none, later-none, all-named}
-use Rattle.stableply.proofs.Crossing.{wrote-stopped, wrote}
+use Rattle.laws.proofs.fields.FieldCalls.{strict-refused, strict-by-store}
+use Rattle.border.specs.Border.{spanOf, significanceOf, signOf, numberOf, none}
+use Rattle.border.proofs.Naming.{first-none, later-none, all-named}
+use Rattle.border.proofs.Crossing.{wrote-stopped, wrote, wrote-as}
 use Rattle.stableply.proofs.fields8.stableply8_store_strict.Statement.{statement}
 use Rattle.stableply.proofs.fields8.stableply8_store_strict.Tie as tie
-use Rattle.rules.proofs.OneAnswer.{judged}
+use Rattle.rules.proofs.refusals.OneAnswer.{judged}
 
 -- the verdict on the arguments as they are named
 checked : (c : tie.After-check-store-strict) → (let a = c .before .before .before .before .before .before .before .before .before .args in
@@ -68,7 +68,7 @@ returns-5 : tie.Need-returns-5
 returns-5 c = let d = c .before .before .before .before in
     let a = d .before .before .before .before .before .before .before .before .before .args in
     let h = strict-refused 8 (now (a .words)) _ (a .k) (significanceOf (a .significance)) _ _ (sym (checked d) ∙ c .before .before .verdict .given .1) refl in
-    wrote _ _ _ (named d) (c .number .ensures) (h .answers) (h .holds)
+    wrote _ _ _ (named d) (c .number .ensures) h
 
 same-length : tie.Need-same-length
 same-length c = search needs
@@ -79,7 +79,7 @@ returns-6 c = let s = c .before .before in
     let d = t .before .before in
     let a = d .before .before .before .before .before .before .before .before .before .args in
     let q = strict-by-store 8 (now (a .words)) _ (a .k) (significanceOf (a .significance)) _ _ (sym (checked d) ∙ t .enum-told .given .1) in
-    rw (← (q .0), ← (q .1)) (s .stableply8-store .ensures)
+    wrote-as (q .0) (q .1) (s .stableply8-store .ensures)
 
 pub stableply8-store-strict-spec : {M : Type 1} → statement M
 stableply8-store-strict-spec =

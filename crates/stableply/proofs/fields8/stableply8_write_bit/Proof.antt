@@ -1,8 +1,8 @@
 -- `stableply8_write_bit`: a code that is none gives 255; else the promise is that of the call behind it, the arguments named.
 use borrow.Author.Needs.{needs}
 use borrow.Author.Tests.{lt-ltb, le-ltb}
-use Rattle.stableply.proofs.Naming.{first-none, later-none, all-named}
-use Rattle.stableply.proofs.Crossing.{wrote-stopped, wrote}
+use Rattle.border.proofs.Naming.{first-none, later-none, all-named}
+use Rattle.border.proofs.Crossing.{wrote-stopped, wrote}
 use Rattle.stableply.proofs.fields8.stableply8_write_bit.Statement.{statement}
 use Rattle.stableply.proofs.fields8.stableply8_write_bit.Tie as tie
 
@@ -30,7 +30,7 @@ same-length c = search needs
 returns-3 : tie.Need-returns-3
 returns-3 c =
     let h = rw (c .before .before .before .before .before .before .span-of .ensures, c .before .before .before .before .before .bit-of .ensures) at (c .before .before .before .write-bit .ensures) in
-    wrote _ _ _ (all-named _ _ (c .before .before .before .before .before .before .before .before .if1 .left) (le-ltb _ _ (c .before .before .before .before .before .before .before .if2 .left))) (c .leave-write .ensures) (h .answers) (h .holds)
+    wrote _ _ _ (all-named _ _ (c .before .before .before .before .before .before .before .before .if1 .left) (le-ltb _ _ (c .before .before .before .before .before .before .before .if2 .left))) (c .leave-write .ensures) h
 
 pub stableply8-write-bit-spec : {M : Type 1} → statement M
 stableply8-write-bit-spec =

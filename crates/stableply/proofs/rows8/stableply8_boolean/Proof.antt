@@ -2,8 +2,8 @@
 use borrow.Author.Needs.{needs}
 use borrow.Author.Tests.{lt-ltb, not-true, not-false}
 use mathlib.Core.Path.{sym, _∙_}
-use Rattle.stableply.proofs.Naming.{first-none, later-none, all-named, no-operation, an-operation}
-use Rattle.stableply.proofs.Crossing.{wrote-stopped, wrote}
+use Rattle.border.proofs.Naming.{first-none, later-none, all-named, no-operation, an-operation}
+use Rattle.border.proofs.Crossing.{wrote-stopped, wrote}
 use Rattle.stableply.proofs.rows8.stableply8_boolean.Statement.{statement}
 use Rattle.stableply.proofs.rows8.stableply8_boolean.Tie as tie
 
@@ -37,7 +37,7 @@ same-length c = search needs
 returns-4 : tie.Need-returns-4
 returns-4 c =
     let h = rw (c .before .before .before .before .before .before .span-of .ensures, c .before .before .before .before .before .span-of2 .ensures) at (c .before .before .before .boolean .ensures) in
-    wrote _ _ _ (all-named _ _ (c .before .before .before .before .before .before .before .before .before .before .if1 .left) (all-named _ _ (c .before .before .before .before .before .before .before .before .before .if2 .left) (an-operation (sym (c .before .before .before .before .before .before .before .before .is-operation .ensures) ∙ not-false (c .before .before .before .before .before .before .before .before .is-operation .result) (c .before .before .before .before .before .before .before .if3 .left))))) (c .leave-write .ensures) (h .answers) (h .holds)
+    wrote _ _ _ (all-named _ _ (c .before .before .before .before .before .before .before .before .before .before .if1 .left) (all-named _ _ (c .before .before .before .before .before .before .before .before .before .if2 .left) (an-operation (sym (c .before .before .before .before .before .before .before .before .is-operation .ensures) ∙ not-false (c .before .before .before .before .before .before .before .before .is-operation .result) (c .before .before .before .before .before .before .before .if3 .left))))) (c .leave-write .ensures) h
 
 pub stableply8-boolean-spec : {M : Type 1} → statement M
 stableply8-boolean-spec =

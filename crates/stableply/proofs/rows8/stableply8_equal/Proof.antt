@@ -1,8 +1,8 @@
 -- `stableply8_equal`: a code that is none gives 255; else the promise is that of the call behind it, the arguments named.
 use borrow.Author.Needs.{needs}
 use borrow.Author.Tests.{lt-ltb, le-ltb}
-use Rattle.stableply.proofs.Naming.{first-none, later-none, all-named}
-use Rattle.stableply.proofs.Crossing.{told-stopped, told}
+use Rattle.border.proofs.Naming.{first-none, later-none, all-named}
+use Rattle.border.proofs.Crossing.{told-stopped, told}
 use Rattle.stableply.proofs.rows8.stableply8_equal.Statement.{statement}
 use Rattle.stableply.proofs.rows8.stableply8_equal.Tie as tie
 

@@ -1,8 +1,8 @@
 -- `stableply8_swap`: a code that is none gives 255; else the promise is that of the call behind it, the arguments named.
 use borrow.Author.Needs.{needs}
 use borrow.Author.Tests.{lt-ltb, le-ltb}
-use Rattle.stableply.proofs.Naming.{first-none, later-none, all-named}
-use Rattle.stableply.proofs.Crossing.{swapped-stopped, swapped}
+use Rattle.border.proofs.Naming.{first-none, later-none, all-named}
+use Rattle.border.proofs.Crossing.{swapped-stopped, swapped}
 use Rattle.stableply.proofs.rows8.stableply8_swap.Statement.{statement}
 use Rattle.stableply.proofs.rows8.stableply8_swap.Tie as tie
 
@@ -33,7 +33,7 @@ same-length-2 c = search needs
 returns-3 : tie.Need-returns-3
 returns-3 c =
     let h = rw (c .before .before .before .before .before .before .before .before .before .span-of .ensures, c .before .before .before .before .before .before .before .before .span-of2 .ensures) at (c .before .before .before .before .before .swap .ensures) in
-    swapped _ _ _ _ _ (all-named _ _ (c .before .before .before .before .before .before .before .before .before .before .before .if1 .left) (le-ltb _ _ (c .before .before .before .before .before .before .before .before .before .before .if2 .left))) (c .leave-write .ensures) (h .0) (h .1) (h .2)
+    swapped _ _ _ _ _ (all-named _ _ (c .before .before .before .before .before .before .before .before .before .before .before .if1 .left) (le-ltb _ _ (c .before .before .before .before .before .before .before .before .before .before .if2 .left))) (c .leave-write .ensures) h
 
 pub stableply8-swap-spec : {M : Type 1} → statement M
 stableply8-swap-spec =

@@ -1,7 +1,7 @@
 -- `stableply64_first_one`: a code that is none gives 255; else the promise is that of the call behind it, the span named.
 use borrow.Author.Needs.{needs}
 use borrow.Author.Tests.{lt-ltb, le-ltb}
-use Rattle.stableply.proofs.Crossing.{found-stopped, found}
+use Rattle.border.proofs.Crossing.{found-stopped, found}
 use Rattle.stableply.proofs.searches64.stableply64_first_one.Statement.{statement}
 use Rattle.stableply.proofs.searches64.stableply64_first_one.Tie as tie
 

@@ -1,7 +1,7 @@
 -- `stableply8_last_zero`: a code that is none gives 255; else the promise is that of the call behind it, the span named.
 use borrow.Author.Needs.{needs}
 use borrow.Author.Tests.{lt-ltb, le-ltb}
-use Rattle.stableply.proofs.Crossing.{found-stopped, found}
+use Rattle.border.proofs.Crossing.{found-stopped, found}
 use Rattle.stableply.proofs.searches8.stableply8_last_zero.Statement.{statement}
 use Rattle.stableply.proofs.searches8.stableply8_last_zero.Tie as tie
 

@@ -1,10 +1,9 @@
--- `mask`: a code that is none gives 255; else the promise is that of `Order::mask`, the order named.
+-- `mask`: a code that is none gives 255; else the promise is that of `wordless::mask`, the order named.
 use borrow.Author.Needs.{needs}
 use Rattle.stableply.proofs.wordless.mask.Statement.{statement}
 use Rattle.stableply.proofs.wordless.mask.Tie as tie
 use Rattle.stableply.proofs.wordless.mask.Reads as reads
 use Rattle.stableply.proofs.wordless.mask.Lts as lts
-use Rattle.rules.proofs.Order.mask.Reads as mask-reads
 use Rattle.stableply.proofs.codes.order_of.Reads as order-of-reads
 use Rattle.stableply.proofs.leaving.leave_mask.Reads as leave-mask-reads
 use mathlib.Core.Path.{_≡_, ap, _∙_}
@@ -12,7 +11,7 @@ use borrow.Author.Tests.{lt-ltb, le-ltb}
 use Rattle.rules.specs.declared.Order.{Order}
 use Rattle.rules.specs.Bits.{bits}
 use Rattle.rules.specs.Calls.{maskAnswer}
-use Rattle.stableply.proofs.Crossing.{told-stopped, told}
+use Rattle.border.proofs.Crossing.{told-stopped, told}
 
 returns : tie.Need-returns
 returns c = told-stopped _ (lt-ltb _ _ (c .if1 .taken))

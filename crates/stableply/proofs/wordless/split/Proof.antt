@@ -12,7 +12,7 @@ use borrow.Author.Tests.{lt-ltb, le-ltb}
 use Rattle.rules.specs.declared.Span.{Span}
 use Rattle.rules.specs.Bits.{bits}
 use Rattle.rules.specs.Calls.{splitAnswer}
-use Rattle.stableply.proofs.Crossing.{rest-stopped, rest}
+use Rattle.border.proofs.Crossing.{rest-stopped, rest}
 
 returns : tie.Need-returns
 returns c = rest-stopped _ (lt-ltb _ _ (c .if1 .taken))

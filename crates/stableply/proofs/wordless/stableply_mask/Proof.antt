@@ -5,8 +5,8 @@ use Rattle.stableply.proofs.wordless.stableply_mask.Tie as tie
 use Rattle.stableply.proofs.wordless.stableply_mask.Reads as reads
 use Rattle.stableply.proofs.wordless.stableply_mask.Lts as lts
 use Rattle.stableply.proofs.wordless.mask.Reads as mask-reads
-use Rattle.stableply.proofs.Naming.{no-width}
-use Rattle.stableply.proofs.Crossing.{told-stopped}
+use Rattle.border.proofs.Naming.{no-width}
+use Rattle.border.proofs.Crossing.{told-stopped}
 
 mask-requires : tie.Need-mask-requires
 mask-requires c κs = search needs

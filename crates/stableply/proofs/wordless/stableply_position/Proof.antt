@@ -5,8 +5,8 @@ use Rattle.stableply.proofs.wordless.stableply_position.Tie as tie
 use Rattle.stableply.proofs.wordless.stableply_position.Reads as reads
 use Rattle.stableply.proofs.wordless.stableply_position.Lts as lts
 use Rattle.stableply.proofs.wordless.position.Reads as position-reads
-use Rattle.stableply.proofs.Naming.{no-width}
-use Rattle.stableply.proofs.Crossing.{told-stopped}
+use Rattle.border.proofs.Naming.{no-width}
+use Rattle.border.proofs.Crossing.{told-stopped}
 
 position-requires : tie.Need-position-requires
 position-requires c κs = search needs

@@ -5,8 +5,8 @@ use Rattle.stableply.proofs.wordless.stableply_selector.Tie as tie
 use Rattle.stableply.proofs.wordless.stableply_selector.Reads as reads
 use Rattle.stableply.proofs.wordless.stableply_selector.Lts as lts
 use Rattle.stableply.proofs.wordless.selector.Reads as selector-reads
-use Rattle.stableply.proofs.Naming.{no-width}
-use Rattle.stableply.proofs.Crossing.{told-stopped}
+use Rattle.border.proofs.Naming.{no-width}
+use Rattle.border.proofs.Crossing.{told-stopped}
 
 selector-requires : tie.Need-selector-requires
 selector-requires c κs = search needs

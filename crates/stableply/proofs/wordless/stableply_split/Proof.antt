@@ -5,8 +5,8 @@ use Rattle.stableply.proofs.wordless.stableply_split.Tie as tie
 use Rattle.stableply.proofs.wordless.stableply_split.Reads as reads
 use Rattle.stableply.proofs.wordless.stableply_split.Lts as lts
 use Rattle.stableply.proofs.wordless.split.Reads as split-reads
-use Rattle.stableply.proofs.Naming.{no-width}
-use Rattle.stableply.proofs.Crossing.{rest-stopped}
+use Rattle.border.proofs.Naming.{no-width}
+use Rattle.border.proofs.Crossing.{rest-stopped}
 
 split-requires : tie.Need-split-requires
 split-requires c κs = search needs

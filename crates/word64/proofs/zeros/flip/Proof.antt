@@ -1,6 +1,6 @@
 -- `flip`: by cases of what is sought. Assumes nothing.
 use borrow.Author.Needs.{needs}
-use Rattle.rules.proofs.WordSearch.{flipped}
+use Rattle.laws.proofs.searches.WordSearch.{flipped}
 use Rattle.word64.proofs.zeros.flip.Statement.{statement}
 use Rattle.word64.proofs.zeros.flip.Tie as tie
 

@@ -2,7 +2,8 @@
 use borrow.Author.Needs.{needs}
 use native.Mathlib.Omega.{arith}
 use lib.Count.{trailing-le, leading-le}
-use Rattle.rules.proofs.WordSearch.{last-lsb0, last-msb0}
+use Rattle.word64.specs.Width.{W}
+use Rattle.laws.proofs.searches.WordSearch.{last-lsb0, last-msb0}
 use Rattle.word64.proofs.zeros.last_end.Statement.{statement}
 use Rattle.word64.proofs.zeros.last_end.Tie as tie
 
@@ -10,25 +11,25 @@ enum-told : tie.Need-enum-told
 enum-told c = search needs
 
 cast-t5 : tie.Need-cast-t5
-cast-t5 c = omega (arith, leading-le 64 (c .before .before .args .word))
+cast-t5 c = omega (arith, leading-le W (c .before .before .args .word))
 
 sub-t6 : tie.Need-sub-t6
-sub-t6 c = omega (arith, leading-le 64 (c .before .before .args .word))
+sub-t6 c = omega (arith, leading-le W (c .before .before .args .word))
 
 enum-told-2 : tie.Need-enum-told-2
 enum-told-2 c = search needs
 
 cast-t8 : tie.Need-cast-t8
-cast-t8 c = omega (arith, trailing-le 64 (c .before .before .args .word))
+cast-t8 c = omega (arith, trailing-le W (c .before .before .args .word))
 
 sub-t9 : tie.Need-sub-t9
-sub-t9 c = omega (arith, trailing-le 64 (c .before .before .args .word))
+sub-t9 c = omega (arith, trailing-le W (c .before .before .args .word))
 
 returns : tie.Need-returns
-returns c = last-lsb0 64 _ (search needs) (search needs)
+returns c = last-lsb0 W _ (search needs) (search needs)
 
 returns-2 : tie.Need-returns-2
-returns-2 c = last-msb0 64 _ (search needs)
+returns-2 c = last-msb0 W _ (search needs)
 
 pub last-end-spec : {M : Type 1} → statement M
 last-end-spec =

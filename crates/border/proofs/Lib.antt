@@ -1,0 +1,4 @@
+pub mod Naming
+pub mod Crossing
+pub mod OneOutcome
+pub mod Declined

@@ -1,0 +1,51 @@
+-- `put_four`: the first half stored, and then the second. Assumes nothing.
+use borrow.Author.Needs.{needs}
+use mathlib.Core.Path.{_≡_, ap, _∙_}
+use Prim.Native.Nat.{_+_, _*_}
+use lib.Dec.{lit<}
+use denote.Ref.{now}
+use Rattle.rules.specs.Fields.{storeOf}
+use Rattle.laws.proofs.fields.Cuts.{store-next}
+use Rattle.chunk8.proofs.chunks.put_four.Statement.{statement}
+use Rattle.chunk8.proofs.chunks.put_four.Tie as tie
+
+first-of-requires : tie.Need-first-of-requires
+first-of-requires c κs = search needs
+
+put-two-requires : tie.Need-put-two-requires
+put-two-requires c κs = search needs
+
+rest-of-requires : tie.Need-rest-of-requires
+rest-of-requires c κs = search needs
+
+add-put-two : tie.Need-add-put-two
+add-put-two c = search needs
+
+put-two-requires-2 : tie.Need-put-two-requires-2
+put-two-requires-2 c κs = search needs
+
+same-length : tie.Need-same-length
+same-length c = search needs
+
+returns : tie.Need-returns
+returns c = let p = c .before .before in
+    let b = p .before .before in
+    let q = b .before .before .before in
+    let f = q .before .before in
+    let a = f .before .before .args in
+    let g = a .significance in
+    λ o. store-next 8 (lit< tt) o g (now (a .words)) (a .at) 2 16 (a .v)
+    (q .put-two .ensures o ∙ ap (storeOf 8 o g (now (a .words)) (a .at * 8) 16) (f .first-of .ensures))
+    (p .put-two2 .ensures o ∙ ap (storeOf 8 o g (q .put-two .last .0) ((a .at + 2) * 8) 16) (b .rest-of .ensures))
+
+pub put-four-spec : {M : Type 1} → statement M
+put-four-spec =
+    tie.close
+    (tie.spec
+    first-of-requires
+    put-two-requires
+    rest-of-requires
+    add-put-two
+    put-two-requires-2
+    same-length
+    returns)

@@ -1,0 +1,2 @@
+-- What is proved of the calls beyond their promises.
+pub mod OnlyOne

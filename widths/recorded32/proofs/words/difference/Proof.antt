@@ -1,0 +1,60 @@
+-- `recorded32::words::difference` is safe and ends: each turn leaves a word fewer.
+use Prim.Native.Nat.{_-_, _≤_}
+use native.Mathlib.Omega.{arith}
+use lib.ListN.{length}
+use Rattle.recorded32.proofs.words.difference.Statement.{statement}
+use Rattle.recorded32.proofs.words.difference.Tie as tie
+
+abbrev Inv-loop : tie.InvT-loop
+Inv-loop words «record» at i₀ i = i ≤ length words
+
+abbrev μ-loop : tie.MeasureT-loop
+μ-loop words «record» at i₀ i = length words - i
+
+loop-holds : tie.Need-loop-holds Inv-loop μ-loop
+loop-holds c = omega arith
+
+word-of-requires : tie.Need-word-of-requires Inv-loop μ-loop
+word-of-requires c κs = tt
+
+-- asked above 8 bits
+mul-given : tie.Need-mul-given Inv-loop μ-loop
+mul-given c = omega arith
+
+shared-slice-read-given : tie.Need-shared-slice-read-given Inv-loop μ-loop
+shared-slice-read-given c = omega arith
+
+differs-requires : tie.Need-differs-requires Inv-loop μ-loop
+differs-requires c κs = tt
+
+returns : tie.Need-returns Inv-loop μ-loop
+returns c = tt
+
+add-i : tie.Need-add-i Inv-loop μ-loop
+add-i c = omega arith
+
+loop-less : tie.Need-loop-less Inv-loop μ-loop
+loop-less c = omega arith
+
+loop-again : tie.Need-loop-again Inv-loop μ-loop
+loop-again c = omega arith
+
+returns-2 : tie.Need-returns-2 Inv-loop μ-loop
+returns-2 c = tt
+
+pub difference-spec : {M : Type 1} → statement M
+difference-spec =
+    tie.close
+    (tie.spec
+    Inv-loop
+    μ-loop
+    loop-holds
+    word-of-requires
+    mul-given
+    shared-slice-read-given
+    differs-requires
+    returns
+    add-i
+    loop-less
+    loop-again
+    returns-2)

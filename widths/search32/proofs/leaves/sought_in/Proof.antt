@@ -1,0 +1,42 @@
+-- `sought_in`: the flip and the mask that the leaves promise. Assumes nothing.
+use borrow.Author.Needs.{needs}
+use mathlib.Core.Path.{_∙_}
+use lib.ListN.{getD}
+use Rattle.word32.specs.Width.{W}
+use Rattle.laws.proofs.searches.WordSearch.{masked-by}
+use Rattle.search32.proofs.leaves.sought_in.Statement.{statement}
+use Rattle.search32.proofs.leaves.sought_in.Tie as tie
+
+flip-requires : tie.Need-flip-requires
+flip-requires c κs = search needs
+
+mask-requires : tie.Need-mask-requires
+mask-requires c κs = search needs
+
+-- asked above 8 bits
+mul-x : tie.Need-mul-x
+mul-x c = search needs
+
+shared-slice-read-x : tie.Need-shared-slice-read-x
+shared-slice-read-x c = search needs
+
+under-requires : tie.Need-under-requires
+under-requires c κs = search needs
+
+returns : tie.Need-returns
+returns c =
+    let at-mask = c .before .before in
+    let a = at-mask .before .before .before .args in
+    c .under .ensures
+    ∙ masked-by W (a .order) (a .sought) (getD (a .words .now) (a .k) 0) (a .head .0) (a .n) (at-mask .before .flip .ensures) (at-mask .mask .ensures)
+
+pub sought-in-spec : {M : Type 1} → statement M
+sought-in-spec =
+    tie.close
+    (tie.spec
+    flip-requires
+    mask-requires
+    mul-x
+    shared-slice-read-x
+    under-requires
+    returns)

@@ -1,0 +1,183 @@
+// The exported calls on single bits and fields of rows of words of 32 bits.
+use border::bit_of;
+use border::leave_bit;
+use border::leave_number;
+use border::leave_write;
+use border::number_of;
+use border::sign_of;
+use border::significance_of;
+use border::span_of;
+use rules::Verdict;
+use rules::Width;
+ghost use mathlib.Core.Bool.{_||_};
+ghost use Rattle.rules.specs.Fields.{whole};
+ghost use Rattle.rules.specs.Calls.{readBit, writeBit, load, store, storeStrict, answer};
+ghost use Rattle.border.specs.Border.{spanOf, bitOf, significanceOf, signOf, numberOf, none, behind, Told, Wrote};
+
+// One bit of a span, as 0 or 1.
+#[no_mangle]
+pub extern "C" fn stableply32_read_bit(
+    words: &[u32],
+    order: u8,
+    word: usize,
+    head: usize,
+    length: usize,
+    index: usize,
+    out: &mut u8,
+) -> u8
+    ensures { λ r. ⌜ Told (behind (none order) (answer 32 (readBit (spanOf order word head length) index) (now (words .entry)))) (now (out .entry)) r
+        (now (out .exit)) ⌝ }
+{
+    if 1 < order {
+        return 255;
+    }
+    let span = span_of(order, word, head, length);
+    leave_bit(field32::read_bit(words, span, index), out)
+}
+
+// Sets one bit of a span to 0 or 1.
+#[no_mangle]
+pub extern "C" fn stableply32_write_bit(
+    words: &mut [u32],
+    order: u8,
+    word: usize,
+    head: usize,
+    length: usize,
+    index: usize,
+    bit: u8,
+) -> u8
+    ensures { λ r. ⌜ Wrote 32 (none order || none bit)
+        (writeBit (spanOf order word head length) index (bitOf bit))
+        (now (words .entry)) r (now (words .exit)) ⌝ }
+{
+    if 1 < order {
+        return 255;
+    }
+    if 1 < bit {
+        return 255;
+    }
+    let span = span_of(order, word, head, length);
+    let named = bit_of(bit);
+    leave_write(field32::write_bit(words, span, index, named))
+}
+
+// The number that a field holds; a signed one in two's complement.
+#[no_mangle]
+pub extern "C" fn stableply32_load(
+    words: &[u32],
+    order: u8,
+    word: usize,
+    head: usize,
+    length: usize,
+    k: usize,
+    significance: u8,
+    sign: u8,
+    out: &mut u64,
+) -> u8
+    ensures { λ r. ⌜ Told
+        (behind (none order || (none significance || none sign))
+        (answer 32 (load (spanOf order word head length) k (significanceOf significance) (signOf sign)) (now (words .entry)))) (now (out .entry)) r
+        (now (out .exit)) ⌝ }
+{
+    if 1 < order {
+        return 255;
+    }
+    if 1 < significance {
+        return 255;
+    }
+    if 1 < sign {
+        return 255;
+    }
+    let span = span_of(order, word, head, length);
+    let weight = significance_of(significance);
+    let named = sign_of(sign);
+    leave_number(field32::load(words, span, k, weight, named), out)
+}
+
+// Places the low bits of a value in a field.
+#[no_mangle]
+pub extern "C" fn stableply32_store(
+    words: &mut [u32],
+    order: u8,
+    word: usize,
+    head: usize,
+    length: usize,
+    k: usize,
+    significance: u8,
+    sign: u8,
+    below: u8,
+    value: u64,
+) -> u8
+    ensures { λ r. ⌜ Wrote 32 (none order || (none significance || (none sign || none below)))
+        (store (spanOf order word head length) k (significanceOf significance) (signOf sign) (whole (numberOf below value)))
+        (now (words .entry)) r (now (words .exit)) ⌝ }
+{
+    if 1 < order {
+        return 255;
+    }
+    if 1 < significance {
+        return 255;
+    }
+    if 1 < sign {
+        return 255;
+    }
+    if 1 < below {
+        return 255;
+    }
+    let span = span_of(order, word, head, length);
+    let weight = significance_of(significance);
+    let named = sign_of(sign);
+    let number = number_of(below, value);
+    leave_write(field32::store(words, span, k, weight, named, number))
+}
+
+// The same, but only for a value that fits. It stores by the call above, whose code is then in one place and whole.
+#[no_mangle]
+pub extern "C" fn stableply32_store_strict(
+    words: &mut [u32],
+    order: u8,
+    word: usize,
+    head: usize,
+    length: usize,
+    k: usize,
+    significance: u8,
+    sign: u8,
+    below: u8,
+    value: u64,
+) -> u8
+    ensures { λ r. ⌜ Wrote 32 (none order || (none significance || (none sign || none below)))
+        (storeStrict (spanOf order word head length) k (significanceOf significance) (signOf sign) (whole (numberOf below value)))
+        (now (words .entry)) r (now (words .exit)) ⌝ }
+{
+    if 1 < order {
+        return 255;
+    }
+    if 1 < significance {
+        return 255;
+    }
+    if 1 < sign {
+        return 255;
+    }
+    if 1 < below {
+        return 255;
+    }
+    let span = span_of(order, word, head, length);
+    let named = sign_of(sign);
+    let number = number_of(below, value);
+    let verdict = refusals::check_store_strict(Width::W32, words.len(), span, k, named, number);
+    match verdict {
+        Verdict::Refused(no) => no.number(),
+        Verdict::Fine => stableply32_store(
+            words,
+            order,
+            word,
+            head,
+            length,
+            k,
+            significance,
+            sign,
+            below,
+            value,
+        ),
+    }
+}

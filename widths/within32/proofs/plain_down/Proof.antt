@@ -1,0 +1,92 @@
+-- `within32::plain_down`: all but the first i words are moved; a word more is not one that was written.
+use mathlib.Core.Path.{_≡_, refl, _∙_}
+use Prim.Native.Nat.{_+_, _-_, _*_, _≤_}
+use native.Mathlib.Omega.{arith}
+use lib.ListN.{length, length-set}
+use lib.Dec.{lit<}
+use denote.Ref.{now}
+use Rattle.word32.specs.Width.{W}
+use Rattle.rules.specs.declared.Order.{Order}
+use Rattle.rules.specs.Rows.{moved}
+use Rattle.rules.proofs.rows.Row.{Words}
+use Rattle.laws.proofs.words.Moves.{from-word}
+use Rattle.laws.proofs.rows.Scratch.{moved-none}
+use Rattle.laws.proofs.rows.InPlace.{moved-at, word-down}
+use Rattle.within32.proofs.plain_down.Statement.{statement}
+use Rattle.within32.proofs.plain_down.Tie as tie
+
+abbrev Inv-loop : tie.InvT-loop
+Inv-loop words₀ b a k i₀ words i = (i ≤ k) × (length words ≡ length words₀) × ((o : Order) → Words W words₀ → words ≡ moved W o words₀ (b * W + 0 + i * W) (a * W + i * W) ((k - i) * W))
+
+abbrev μ-loop : tie.MeasureT-loop
+μ-loop words₀ b a k i₀ words i = i
+
+loop-holds : tie.Need-loop-holds Inv-loop μ-loop
+loop-holds c =
+    let a = c .args in
+    (omega arith, refl, (λ o w. moved-none W (lit< tt) o (now (a .words)) (a .b * W + 0 + a .k * W) (a .a * W + a .k * W) ((a .k - a .k) * W) (omega arith) w))
+
+sub-i : tie.Need-sub-i Inv-loop μ-loop
+sub-i c = omega arith
+
+add-words : tie.Need-add-words Inv-loop μ-loop
+add-words c = omega arith
+
+-- asked above 8 bits
+mul-words : tie.Need-mul-words Inv-loop μ-loop
+mul-words c = omega arith
+
+slice-read-words : tie.Need-slice-read-words Inv-loop μ-loop
+slice-read-words c = omega arith
+
+add-words-2 : tie.Need-add-words-2 Inv-loop μ-loop
+add-words-2 c = omega arith
+
+-- asked above 8 bits
+mul-words-2 : tie.Need-mul-words-2 Inv-loop μ-loop
+mul-words-2 c = omega arith
+
+slice-write-words : tie.Need-slice-write-words Inv-loop μ-loop
+slice-write-words c = omega arith
+
+loop-less : tie.Need-loop-less Inv-loop μ-loop
+loop-less c = omega arith
+
+loop-again : tie.Need-loop-again Inv-loop μ-loop
+loop-again c =
+    let turn = c .before .before in
+    let a = turn .before .args in
+    let i = turn .loop .i in (
+      omega arith,
+      simp length-set (turn .loop .inv .1),
+      (λ o w. word-down W (lit< tt) o (now (a .words)) (a .a) (a .b) 0 (a .k) (i - 1) i (omega arith) (omega arith) (omega arith) (omega arith) (omega arith) (omega arith) (turn .loop .inv .2 o w)
+          (from-word W o (turn .loop .words) (a .b + (i - 1)))),
+    )
+
+same-length : tie.Need-same-length Inv-loop μ-loop
+same-length c = omega arith
+
+returns : tie.Need-returns Inv-loop μ-loop
+returns c =
+    let turn = c .before in
+    let a = turn .before .args in
+    λ o w. turn .loop .inv .2 o w ∙ moved-at W o (now (a .words)) (omega arith) (omega arith) (omega arith)
+
+pub plain-down-spec : {M : Type 1} → statement M
+plain-down-spec =
+    tie.close
+    (tie.spec
+    Inv-loop
+    μ-loop
+    loop-holds
+    sub-i
+    add-words
+    mul-words
+    slice-read-words
+    add-words-2
+    mul-words-2
+    slice-write-words
+    loop-less
+    loop-again
+    same-length
+    returns)

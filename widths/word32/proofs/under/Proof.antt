@@ -1,0 +1,16 @@
+-- `under` has no bits that the word has not, so it fits the word. Assumes nothing.
+use borrow.Author.Needs.{needs}
+use native.Mathlib.Omega.{arith}
+use lib.Bits.{and-le-l}
+use Rattle.word32.proofs.under.Statement.{statement}
+use Rattle.word32.proofs.under.Tie as tie
+
+-- asked below 64 bits
+cast-result : tie.Need-cast-result
+cast-result c = omega (arith, and-le-l (c .before .args .x) (c .before .args .m .0))
+
+returns : tie.Need-returns
+returns c = search needs
+
+pub under-spec : {M : Type 1} → statement M
+under-spec = tie.close (tie.spec cast-result returns)
