@@ -1,3 +1,4 @@
+-- Rows written part by part, moved and swapped, and the calls on them.
 pub mod Word
 pub mod Part
 pub mod Scratch

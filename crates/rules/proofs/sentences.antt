@@ -1,3 +1,4 @@
+-- Document 01, sentence by sentence.
 pub mod Sentences
 pub mod FieldSentences
 pub mod FieldByPieces
