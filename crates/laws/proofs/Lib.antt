@@ -1,6 +1,6 @@
 -- Facts for any width W that the proofs of the code cite; a folder for each subject, as in `rules`.
 
--- numbers as code tests them, and the calls without words
+-- numbers as code tests them
 pub mod bits
 -- rows written part by part, moved, swapped, and the calls on them
 pub mod rows

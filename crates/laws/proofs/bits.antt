@@ -1,5 +1,4 @@
+-- Numbers as code tests them.
 pub mod Bounds
 pub mod Machine
 pub mod Sizes
-pub mod Wordless
-pub mod Zeros

@@ -1,3 +1,4 @@
+-- Fields cut into pieces, or read and written many words at once, and the calls on them.
 pub mod Cuts
 pub mod Chunk
 pub mod Turned

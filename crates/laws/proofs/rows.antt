@@ -1,6 +1,6 @@
+-- Rows written part by part, moved and swapped, and the calls on them.
 pub mod Word
 pub mod Part
-pub mod Copy
 pub mod Scratch
 pub mod InPlace
 pub mod Filled

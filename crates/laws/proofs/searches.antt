@@ -1,3 +1,4 @@
+-- Searches in a word and in a row.
 pub mod WordSearch
 pub mod Alike
 pub mod RowSearch

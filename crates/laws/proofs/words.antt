@@ -1,3 +1,4 @@
+-- Words moved, masked, joined, combined and compared.
 pub mod Funnel
 pub mod Moves
 pub mod Merged

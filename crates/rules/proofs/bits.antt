@@ -1,3 +1,4 @@
+-- Numbers and their bits.
 pub mod Bit
 pub mod Weigh
 pub mod Digits

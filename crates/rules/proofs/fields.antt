@@ -1,2 +1,3 @@
+-- Fields: numbers in a row.
 pub mod Field
 pub mod Signed

@@ -1,3 +1,4 @@
+-- The third demand: two parties never disturb each other.
 pub mod Parties
 pub mod Footprints
 pub mod Isolation

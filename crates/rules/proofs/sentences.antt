@@ -1,6 +1,8 @@
+-- Document 01, sentence by sentence.
 pub mod Sentences
 pub mod FieldSentences
 pub mod FieldByPieces
 pub mod RowSentences
 pub mod SearchSentences
 pub mod Unread
+pub mod Operations

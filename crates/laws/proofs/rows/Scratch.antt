@@ -11,7 +11,7 @@ use Rattle.rules.specs.Positions.{row, spliced}
 use Rattle.rules.specs.Rows.{moved}
 use Rattle.rules.proofs.rows.Row.{Words, row-bit}
 use Rattle.rules.proofs.rows.Splice.{spliced-inside, spliced-past, spliced-before, splice-eq, splice-up, splice-none}
-use Rattle.laws.proofs.rows.Copy.{copy-up, copy-down}
+use Rattle.rules.proofs.rows.Copy.{copy-up, copy-down}
 use Rattle.laws.proofs.rows.Part.{grown}
 
 module _ (W : ℕ) (pos : 0 < W) (o : Order) where

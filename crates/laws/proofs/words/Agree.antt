@@ -11,7 +11,7 @@ use lib.ListN.{getD}
 use lib.Arith.{digits-lt}
 use lib.Dec.{eqb}
 use borrow.Author.Tests.{eq-eqb, eqb-true}
-use lib.Bits.{bitAnd, bitOr, bitXor, differ, xor-self, or-zero-r, and-le-l, xor-lt}
+use lib.Bits.{bitAnd, bitOr, bitXor, differ, xor-self, or-zero-r, and-le-l, and-le-r, or-add-and, xor-lt}
 use Rattle.laws.specs.Types.{Order}
 use Rattle.rules.specs.Bits.{bitN}
 use Rattle.rules.specs.Positions.{position, mask, row}
@@ -20,7 +20,6 @@ use Rattle.rules.proofs.bits.Bit.{bit-lt, bit-and, bit-xor, bit-of-zero, bits-e
 use Rattle.rules.proofs.rows.Row.{Words, row-at, row-bit, position-lt, position-twice}
 use Rattle.rules.proofs.bits.Digits.{bit-ofBits, ofBits-is}
 use Rattle.rules.proofs.bits.Masks.{mask-in, mask-out}
-use Rattle.laws.proofs.bits.Zeros.{or-zero, differ-none, xor-zero}
 use Rattle.laws.proofs.words.Moves.{Carries}
 use Rattle.laws.proofs.words.Wholes.{wordOn}
 use Rattle.laws.proofs.rows.Part.{row-near}
@@ -78,6 +77,18 @@ module _ (i n m : ℕ) (b c b′ c′ : ℕ → ℕ) (eb : (j : ℕ) → j < n �
   differs-on e low v d = record { none-all = λ z. agree-on e low (d .none-all z); all-none = λ all. d .all-none (agree-off (omega arith) all) }
 
 -- ---- differences of words, gathered
+
+or-zero : (a b : ℕ) → bitOr a b ≡ 0 → (a ≡ 0) × (b ≡ 0)
+or-zero a b e = (omega (arith, or-add-and a b, and-le-l a b, and-le-r a b, e), omega (arith, or-add-and a b, and-le-l a b, and-le-r a b, e))
+
+-- two bits, and two numbers, that do not differ are one
+differ-none : (x y : ℕ) → x < 2 → y < 2 → differ x y ≡ 0 → x ≡ y
+differ-none zero y h l e = sym e
+differ-none (suc x) zero h l e = absurd (omega (arith, e))
+differ-none (suc x) (suc y) h l e = ap suc (differ-none x y (omega arith) (omega arith) e)
+
+xor-zero : (a b : ℕ) → bitXor a b ≡ 0 → a ≡ b
+xor-zero a b e = bits-ext a b (λ k. differ-none (bitN a k) (bitN b k) (bit-lt a k) (bit-lt b k) (sym (bit-xor a b k) ∙ ap (λ (x : ℕ). bitN x k) e ∙ bit-of-zero k))
 
 differ-self : (x y : ℕ) → x ≡ y → differ x y ≡ 0
 differ-self x y e = rw e (self y)

@@ -3,61 +3,28 @@ use mathlib.Core.Path.{_≡_, refl, sym, ap, ap₂, _∙_}
 use mathlib.Core.Logic.{_⊎_, inl, inr, _≢_}
 use mathlib.Core.Bool.{cond}
 use mathlib.Core.List.{List}
-use Prim.Native.Nat.{ℕ, zero, suc, _+_, _-_, _*_, _/_, _%_, _^_, _≤_, _<_, min, max}
+use Prim.Native.Nat.{ℕ, zero, suc, _+_, _-_, _*_, _/_, _%_, _^_, _≤_, _<_, min}
 use native.Mathlib.Nat.{add-assoc, add-mul}
 use native.Mathlib.Omega.{arith}
 use lib.ListN.{length, getD}
 use lib.Dec.{ltb}
 use borrow.Author.Tests.{lt-ltb, le-ltb}
-use lib.Bits.{bitAnd, bitOr, bitXor, differ, and-lt, or-lt, xor-lt}
+use lib.Bits.{bitAnd, bitOr, bitXor, and-lt, or-lt, xor-lt}
 use lib.Pow.{pow-pos, ones-lt}
 use borrow.Rule.Slice.PartMut.{putMid, midOf}
 use Rattle.laws.specs.Types.{Order}
 use Rattle.rules.specs.Bits.{bitN, ofBits}
 use Rattle.rules.specs.Positions.{position, row, spliced}
 use Rattle.rules.specs.Rows.{applied}
-use Rattle.rules.proofs.bits.Bit.{bit-lt, bit-bit, bit-and, bit-or, bit-xor, bit-cases, bit-of-zero, bit-ones}
+use Rattle.rules.proofs.bits.Bit.{bit-lt, bit-bit, bit-cases, bit-of-zero, bit-ones}
 use Rattle.rules.proofs.bits.Digits.{bit-ofBits, ofBits-is, ofBits-ext}
 use Rattle.rules.proofs.rows.Row.{Words, row-at, row-bit, position-lt, position-twice}
 use Rattle.rules.proofs.rows.Splice.{splice-eq, spliced-past}
+use Rattle.rules.proofs.sentences.Operations.{and-applied, or-applied, xor-applied}
 use Rattle.laws.proofs.words.Merged.{selected, select-on, select-off, select-lt}
 use Rattle.laws.proofs.words.Moves.{Carries}
 use Rattle.laws.proofs.words.Wholes.{wordOn, lent-words}
 use Rattle.laws.proofs.rows.Part.{row-near, part-word, grown}
-
--- the three operations of document 01 are those of words
-applied-and : (a b : ℕ) → (a ≡ 0) ⊎ (a ≡ 1) → (b ≡ 0) ⊎ (b ≡ 1) → min a b ≡ applied 8 a b
-unfolding applied bitN
-applied-and a b (inl e) (inl f) = rw (e, f)
-applied-and a b (inl e) (inr f) = rw (e, f)
-applied-and a b (inr e) (inl f) = rw (e, f)
-applied-and a b (inr e) (inr f) = rw (e, f)
-
-applied-or : (a b : ℕ) → (a ≡ 0) ⊎ (a ≡ 1) → (b ≡ 0) ⊎ (b ≡ 1) → max a b ≡ applied 14 a b
-unfolding applied bitN
-applied-or a b (inl e) (inl f) = rw (e, f)
-applied-or a b (inl e) (inr f) = rw (e, f)
-applied-or a b (inr e) (inl f) = rw (e, f)
-applied-or a b (inr e) (inr f) = rw (e, f)
-
-applied-xor : (a b : ℕ) → (a ≡ 0) ⊎ (a ≡ 1) → (b ≡ 0) ⊎ (b ≡ 1) → differ a b ≡ applied 6 a b
-unfolding applied bitN
-applied-xor a b (inl e) (inl f) = rw (e, f)
-applied-xor a b (inl e) (inr f) = rw (e, f)
-applied-xor a b (inr e) (inl f) = rw (e, f)
-applied-xor a b (inr e) (inr f) = rw (e, f)
-
-two : (n k : ℕ) → (bitN n k ≡ 0) ⊎ (bitN n k ≡ 1)
-two n k = bit-cases (bitN n k) (bit-lt n k)
-
-pub and-applied : (x y k : ℕ) → bitN (bitAnd x y) k ≡ applied 8 (bitN x k) (bitN y k)
-and-applied x y k = bit-and x y k ∙ applied-and (bitN x k) (bitN y k) (two x k) (two y k)
-
-pub or-applied : (x y k : ℕ) → bitN (bitOr x y) k ≡ applied 14 (bitN x k) (bitN y k)
-or-applied x y k = bit-or x y k ∙ applied-or (bitN x k) (bitN y k) (two x k) (two y k)
-
-pub xor-applied : (x y k : ℕ) → bitN (bitXor x y) k ≡ applied 6 (bitN x k) (bitN y k)
-xor-applied x y k = bit-xor x y k ∙ applied-xor (bitN x k) (bitN y k) (two x k) (two y k)
 
 -- ---- one word
 

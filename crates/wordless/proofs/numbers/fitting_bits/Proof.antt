@@ -13,7 +13,7 @@ use Rattle.rules.specs.Calls.{a-number, fittingAnswer}
 use Rattle.rules.proofs.bits.Bit.{same-low}
 use Rattle.rules.proofs.refusals.Accepted.{Valued, fine-fitted}
 use Rattle.rules.proofs.refusals.OneAnswer.{said-refused, said-fine, judged}
-use Rattle.laws.proofs.bits.Wordless.{low-part}
+use Rattle.rules.proofs.refusals.Wordless.{low-part}
 
 fine : (c : tie.After-enum-told) → (let a = c .before .before .before .args in verdict (fittingCases (a .k) (a .len) (a .sign) (whole (a .value))) ≡ Fine)
 fine c = sym (judged (c .before .before .check-fit .ensures)) ∙ c .enum-told .given .1

@@ -12,7 +12,7 @@ use Rattle.rules.specs.Refusals.{verdict, fieldCases}
 use Rattle.rules.specs.Calls.{a-number, readAnswer}
 use Rattle.rules.proofs.refusals.Accepted.{fine-sized}
 use Rattle.rules.proofs.refusals.OneAnswer.{said-refused, said-fine, judged}
-use Rattle.laws.proofs.bits.Wordless.{low-part}
+use Rattle.rules.proofs.refusals.Wordless.{low-part}
 
 fine : (c : tie.After-enum-told) → verdict (fieldCases (c .before .before .before .args .k) (c .before .before .before .args .len)) ≡ Fine
 fine c = sym (judged (c .before .before .check-field .ensures)) ∙ c .enum-told .given .1

@@ -3,7 +3,7 @@ use borrow.Author.Needs.{needs}
 use Rattle.wordless.proofs.orders.mask.Statement.{statement}
 use Rattle.wordless.proofs.orders.mask.Tie as tie
 use native.Mathlib.Omega.{arith}
-use Rattle.laws.proofs.bits.Wordless.{mask-refused-2, mask-past, mask-crossed, mask-given}
+use Rattle.rules.proofs.refusals.Wordless.{mask-refused-2, mask-past, mask-crossed, mask-given}
 
 bits-requires : tie.Need-bits-requires
 bits-requires c κs = search needs

@@ -3,7 +3,7 @@ use borrow.Author.Needs.{needs}
 use Rattle.wordless.proofs.orders.mask_of.Statement.{statement}
 use Rattle.wordless.proofs.orders.mask_of.Tie as tie
 use Rattle.rules.proofs.bits.Masks.{mask-from}
-use Rattle.laws.proofs.bits.Wordless.{lowest-lsb0, lowest-msb0, empty-mask}
+use Rattle.rules.proofs.refusals.Wordless.{lowest-lsb0, lowest-msb0, empty-mask}
 use native.Mathlib.Omega.{arith}
 use Rattle.rules.proofs.refusals.Widths.{bits-upto}
 

@@ -3,7 +3,7 @@ use borrow.Author.Needs.{needs}
 use Rattle.wordless.proofs.orders.position.Statement.{statement}
 use Rattle.wordless.proofs.orders.position.Tie as tie
 use native.Mathlib.Omega.{arith}
-use Rattle.laws.proofs.bits.Wordless.{position-refused, position-given}
+use Rattle.rules.proofs.refusals.Wordless.{position-refused, position-given}
 
 bits-requires : tie.Need-bits-requires
 bits-requires c κs = search needs

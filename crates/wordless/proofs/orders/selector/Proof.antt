@@ -4,7 +4,7 @@ use Rattle.wordless.proofs.orders.selector.Statement.{statement}
 use Rattle.wordless.proofs.orders.selector.Tie as tie
 use native.Mathlib.Omega.{arith}
 use Rattle.rules.proofs.refusals.Widths.{bits-upto}
-use Rattle.laws.proofs.bits.Wordless.{selector-refused, selector-given}
+use Rattle.rules.proofs.refusals.Wordless.{selector-refused, selector-given}
 
 bits-requires : tie.Need-bits-requires
 bits-requires c κs = search needs

@@ -6,12 +6,12 @@ use native.Mathlib.Omega.{arith}
 use borrow.Author.Tests.{le-leb, lt-leb, lt-ltb, le-ltb}
 use lib.Dec.{ltb}
 use lib.Bits.{bitAnd, and-mask}
-use Rattle.laws.specs.Types.{Order, Lsb0, Msb0}
+use Rattle.rules.specs.Types.{Order, Lsb0, Msb0}
 use Rattle.rules.specs.Positions.{position, selector, mask}
 use Rattle.rules.specs.Refusals.{verdict, indexCases, maskCases}
 use Rattle.rules.specs.Calls.{refused, a-position, a-selector, a-mask, positionAnswer, selectorAnswer, maskAnswer}
 use Rattle.rules.proofs.fields.Field.{lowest}
 use Rattle.rules.proofs.bits.Masks.{mask-none}
 
 module _ (W : ℕ) (o : Order) (i : ℕ) where
   pub position-refused : W ≤ i → refused 2 ≡ positionAnswer W o i

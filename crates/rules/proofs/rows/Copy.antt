@@ -5,10 +5,10 @@ use Prim.Native.Nat.{ℕ, _+_, _*_, _≤_, _<_}
 use native.Mathlib.Nat.{add-assoc}
 use native.Mathlib.Omega.{arith}
 use lib.ListN.{length}
-use Rattle.laws.specs.Types.{Order}
+use Rattle.rules.specs.Types.{Order}
 use Rattle.rules.specs.Positions.{row, spliced}
 use Rattle.rules.specs.Rows.{moved}
 use Rattle.rules.proofs.rows.Splice.{spliced-past, spliced-before, splice-up, splice-down, splice-eq}
 
 module _ (W : ℕ) (pos : 0 < W) (o : Order) (ws : List ℕ) (src dst k n : ℕ) (fits : dst + (k + n) ≤ length ws * W) (reads : src + (k + n) ≤ length ws * W) where
   -- upward, where the destination is not above the source: the first k, and then the n after them, from what the buffer holds by then
