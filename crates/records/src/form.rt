@@ -32,8 +32,8 @@ use crate::places::due_length;
 use crate::places::first_lent;
 use crate::places::second_lent;
 
-// What is wrong with a record, or that nothing is: its call, its width, whose answer it is, the bytes that mean nothing, a code above 255, too
-// many lent words, or a length that does not come from the rest.
+// What is wrong with a record, or that nothing is: its call, its width, whose answer it is, the bytes that mean nothing, a code above 255,
+// too many lent words, or a length that does not come from the rest.
 pub enum Fault {
     Nothing,
     Call,

@@ -1,5 +1,5 @@
-// Lent words in a record: how many there are, and where they stand. The words lent first come before those lent second, as they are before the
-// call; then, as they are after it, those that the call may write.
+// Lent words in a record: how many there are, and where they stand. The words lent first come before those lent second, as they are before
+// the call; then, as they are after it, those that the call may write.
 use crate::arguments::LENT;
 use crate::arguments::SECOND_LENT;
 use crate::calls::lends;
