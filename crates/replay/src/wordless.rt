@@ -9,7 +9,7 @@ use records::parts::code;
 use records::parts::size;
 use records::seen;
 use records::seen::Given;
-use stableply::wordless;
+use stableply::unlent;
 
 // Makes the call without lent words that the record names.
 pub fn made(record: &[u8]) -> Given {
@@ -24,7 +24,7 @@ pub fn made(record: &[u8]) -> Given {
 // Asks for the position of an index, which is the out-value.
 fn position(record: &[u8]) -> Given {
     let mut out: u64 = 0;
-    let returned = wordless::stableply_position(
+    let returned = unlent::stableply_position(
         code(record, indexed::WIDTH),
         code(record, indexed::ORDER),
         size(record, indexed::INDEX),
@@ -36,7 +36,7 @@ fn position(record: &[u8]) -> Given {
 // Asks for the selector of an index, which is the out-value.
 fn selector(record: &[u8]) -> Given {
     let mut out: u64 = 0;
-    let returned = wordless::stableply_selector(
+    let returned = unlent::stableply_selector(
         code(record, indexed::WIDTH),
         code(record, indexed::ORDER),
         size(record, indexed::INDEX),
@@ -48,7 +48,7 @@ fn selector(record: &[u8]) -> Given {
 // Asks for the mask of a range of indexes, which is the out-value.
 fn mask(record: &[u8]) -> Given {
     let mut out: u64 = 0;
-    let returned = wordless::stableply_mask(
+    let returned = unlent::stableply_mask(
         code(record, indexed::WIDTH),
         code(record, indexed::ORDER),
         size(record, indexed::FROM),
@@ -63,7 +63,7 @@ fn halves(record: &[u8]) -> Given {
     let mut word: usize = 0;
     let mut head: usize = 0;
     let mut length: usize = 0;
-    let returned = wordless::stableply_split(
+    let returned = unlent::stableply_split(
         code(record, split::WIDTH),
         size(record, split::LENT),
         code(record, split::ORDER),

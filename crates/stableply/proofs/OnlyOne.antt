@@ -8,10 +8,10 @@ use Rattle.rules.specs.declared.Span.{Span}
 use Rattle.rules.specs.Calls.{Answer, Call}
 use Rattle.stableply.specs.Border.{Told, Found, Rest, Wrote, Swapped}
 use denote.Ref.{now}
-use Rattle.stableply.proofs.wordless.stableply_position.Reads as stableply-position
-use Rattle.stableply.proofs.wordless.stableply_selector.Reads as stableply-selector
-use Rattle.stableply.proofs.wordless.stableply_mask.Reads as stableply-mask
-use Rattle.stableply.proofs.wordless.stableply_split.Reads as stableply-split
+use Rattle.stableply.proofs.unlent.stableply_position.Reads as stableply-position
+use Rattle.stableply.proofs.unlent.stableply_selector.Reads as stableply-selector
+use Rattle.stableply.proofs.unlent.stableply_mask.Reads as stableply-mask
+use Rattle.stableply.proofs.unlent.stableply_split.Reads as stableply-split
 
 pub told-only : {a : Answer} {old r r′ new new′ : ℕ} → Told a old r new → Told a old r′ new′ → (r ≡ r′) × (new ≡ new′)
 told-only p q = (p .number ∙ sym (q .number), p .value ∙ sym (q .value))
