@@ -1,4 +1,4 @@
-// From codes to the library's types, for callers that have seen that a code is 0 or 1.
+// From the codes of the interface to the library's types. Codes are 0 or 1, as the callers have seen before they ask.
 use rules::Number;
 use rules::Order;
 use rules::Sign;
@@ -8,21 +8,30 @@ ghost use mathlib.Core.Path.{_≡_};
 ghost use mathlib.Core.Bool.{not};
 ghost use Rattle.border.specs.Border.{orderOf, significanceOf, signOf, numberOf, bitOf, spanOf, noOperation};
 
-// The order that a code names.
+// The number of the operation and.
+const AND: u8 = 8;
+
+// The number of the operation or.
+const OR: u8 = 14;
+
+// The number of the operation xor.
+const XOR: u8 = 6;
+
+// The order that a code names: 0 is Lsb0, 1 is Msb0.
 pub fn order_of(code: u8) -> Order
     ensures { λ r. ⌜ r ≡ orderOf code ⌝ }
 {
     if code == 0 { Order::Lsb0 } else { Order::Msb0 }
 }
 
-// The span that four arguments name.
+// The span that four arguments of a call name.
 pub fn span_of(order: u8, word: usize, head: usize, length: usize) -> Span
     ensures { λ r. ⌜ r ≡ spanOf order word head length ⌝ }
 {
     Span::new(order_of(order), word, head, length)
 }
 
-// A significance.
+// The significance that a code names: 0 is le, 1 is be.
 pub fn significance_of(code: u8) -> Significance
     ensures { λ r. ⌜ r ≡ significanceOf code ⌝ }
 {
@@ -33,7 +42,7 @@ pub fn significance_of(code: u8) -> Significance
     }
 }
 
-// A sign.
+// The sign that a code names: 0 is unsigned, 1 is signed.
 pub fn sign_of(code: u8) -> Sign
     ensures { λ r. ⌜ r ≡ signOf code ⌝ }
 {
@@ -44,7 +53,7 @@ pub fn sign_of(code: u8) -> Sign
     }
 }
 
-// A value, and whether it is counted down from -1.
+// The number that a value stands for: the value itself, or with `below` the value counted down from -1, so that 0 stands for -1.
 pub fn number_of(below: u8, value: u64) -> Number
     ensures { λ r. ⌜ r ≡ numberOf below value ⌝ }
 {
@@ -55,22 +64,22 @@ pub fn number_of(below: u8, value: u64) -> Number
     }
 }
 
-// A bit.
+// The bit that a code names.
 pub fn bit_of(code: u8) -> bool
     ensures { λ r. ⌜ r ≡ bitOf code ⌝ }
 {
     if code == 0 { false } else { true }
 }
 
-// Whether a number is that of and, or, or xor.
+// Whether a number is that of an operation: the truth table of and, or, or xor, read as a number.
 pub fn is_operation(operation: u8) -> bool
     ensures { λ r. ⌜ r ≡ not (noOperation operation) ⌝ }
 {
-    if operation == 8 {
+    if operation == AND {
         return true;
     }
-    if operation == 14 {
+    if operation == OR {
         return true;
     }
-    operation == 6
+    operation == XOR
 }

@@ -1,4 +1,5 @@
-// How an answer leaves: its value goes behind the caller's pointer where the request was accepted, and its number is what the call returns.
+// How an answer leaves the library: where the request was accepted, its value goes behind the caller's pointer and the call returns 0.
+// Where it was refused, the call returns the number of the refusal, and nothing is written.
 use rules::BitAnswer;
 use rules::EqualAnswer;
 use rules::MaskAnswer;
@@ -13,6 +14,7 @@ ghost use mathlib.Core.Path.{_≡_};
 ghost use Rattle.rules.specs.Answers.{positionSays, selectorSays, maskSays, splitSays, bitSays, numberSays, writeSays, equalSays, searchSays};
 ghost use Rattle.border.specs.Border.{Told, Found, Rest, returned};
 
+// A position leaves as a number.
 pub fn leave_position(answer: PositionAnswer, out: &mut u64) -> u8
     ensures { λ r. ⌜ Told (positionSays answer) (now (out .entry)) r (now (out .exit)) ⌝ }
 {
@@ -25,6 +27,7 @@ pub fn leave_position(answer: PositionAnswer, out: &mut u64) -> u8
     }
 }
 
+// A selector leaves as the word that it is; a byte's stands in the low 8 bits.
 pub fn leave_selector(answer: SelectorAnswer, out: &mut u64) -> u8
     ensures { λ r. ⌜ Told (selectorSays answer) (now (out .entry)) r (now (out .exit)) ⌝ }
 {
@@ -37,6 +40,7 @@ pub fn leave_selector(answer: SelectorAnswer, out: &mut u64) -> u8
     }
 }
 
+// A mask leaves as the word that it is; a byte's stands in the low 8 bits.
 pub fn leave_mask(answer: MaskAnswer, out: &mut u64) -> u8
     ensures { λ r. ⌜ Told (maskSays answer) (now (out .entry)) r (now (out .exit)) ⌝ }
 {
@@ -49,6 +53,7 @@ pub fn leave_mask(answer: MaskAnswer, out: &mut u64) -> u8
     }
 }
 
+// A bit leaves as 0 or 1.
 pub fn leave_bit(answer: BitAnswer, out: &mut u8) -> u8
     ensures { λ r. ⌜ Told (bitSays answer) (now (out .entry)) r (now (out .exit)) ⌝ }
 {
@@ -61,7 +66,7 @@ pub fn leave_bit(answer: BitAnswer, out: &mut u8) -> u8
     }
 }
 
-// A negative number leaves in two's complement.
+// A loaded number leaves in 64 bits, one below 0 in two's complement.
 pub fn leave_number(answer: NumberAnswer, out: &mut u64) -> u8
     ensures { λ r. ⌜ Told (numberSays answer) (now (out .entry)) r (now (out .exit)) ⌝ }
 {
@@ -80,6 +85,7 @@ pub fn leave_number(answer: NumberAnswer, out: &mut u64) -> u8
     }
 }
 
+// A comparison leaves 1 where the rows are equal, else 0.
 pub fn leave_equal(answer: EqualAnswer, out: &mut u8) -> u8
     ensures { λ r. ⌜ Told (equalSays answer) (now (out .entry)) r (now (out .exit)) ⌝ }
 {
@@ -96,6 +102,7 @@ pub fn leave_equal(answer: EqualAnswer, out: &mut u8) -> u8
     }
 }
 
+// A search leaves 1 and the index where it found the bit. Where there is none it leaves 0, and the index as it was.
 pub fn leave_found(answer: SearchAnswer, found: &mut u8, at: &mut usize) -> u8
     ensures { λ r. ⌜ Found (searchSays answer) (now (found .entry)) (now (at .entry)) r (now (found .exit)) (now (at .exit)) ⌝ }
 {
@@ -113,6 +120,7 @@ pub fn leave_found(answer: SearchAnswer, found: &mut u8, at: &mut usize) -> u8
     }
 }
 
+// A split leaves the word, the head and the length of the rest. The first half has the span's own word and head, so that it need not leave.
 pub fn leave_rest(answer: SplitAnswer, word: &mut usize, head: &mut usize, length: &mut usize) -> u8
     ensures { λ r. ⌜ Rest (splitSays answer) (now (word .entry)) (now (head .entry)) (now (length .entry)) r (now (word .exit)) (now (head .exit))
         (now (length .exit)) ⌝ }
@@ -129,7 +137,7 @@ pub fn leave_rest(answer: SplitAnswer, word: &mut usize, head: &mut usize, lengt
     }
 }
 
-// A write leaves nothing but its number.
+// A write leaves nothing but what the call returns: the words are written already.
 pub fn leave_write(answer: WriteAnswer) -> u8
     ensures { λ r. ⌜ r ≡ returned (writeSays answer) ⌝ }
 {

@@ -1,4 +1,5 @@
-// Fields taken by Rattle code that knows their order and significance, for the benchmark: one call from C takes many. No part of the library.
+// Fields taken by Rattle code that knows their order and significance, for the benchmark: one call from C takes many. This is no part of
+// the library.
 mod known64;
 mod known8;
 mod taken;

@@ -1,4 +1,4 @@
-// What both widths take: the span of a field, the number that a load of it answers, and how numbers are mixed.
+// What the loops of every width share: the span of a field, the number that a load of it answers, and how numbers are mixed.
 use rules::Number;
 use rules::NumberAnswer;
 use rules::Order;
@@ -7,14 +7,14 @@ ghost use mathlib.Core.Path.{_≡_};
 ghost use Rattle.rules.specs.Answers.{numberSays};
 ghost use Rattle.known.specs.Known.{fieldAt, unsignedOf, mixIn};
 
-// The Lsb0 field of k bits at a head of a word.
+// The span of the field of k bits that begins at a head of a word, in Lsb0.
 pub fn field(word: usize, head: usize, k: usize) -> Span
     ensures { λ r. ⌜ r ≡ fieldAt word head k ⌝ }
 {
     Span::new(Order::Lsb0, word, head, k)
 }
 
-// The number of an unsigned load, 0 where it is refused.
+// The number that an unsigned load answers, 0 where the load is refused. No unsigned load answers a number below 0.
 pub fn unsigned(answer: NumberAnswer) -> u64
     ensures { λ r. ⌜ r ≡ unsignedOf (numberSays answer) ⌝ }
 {
@@ -27,7 +27,7 @@ pub fn unsigned(answer: NumberAnswer) -> u64
     }
 }
 
-// One more number mixed in.
+// The mix of the numbers so far and of one more. Every number has its part in it, so that a caller sees whether all were loaded.
 pub fn mix_in(mixed: u64, n: u64) -> u64
     ensures { λ r. ⌜ r ≡ mixIn mixed n ⌝ }
 {

@@ -1,5 +1,5 @@
-// Two parties in one byte: a mixture of their calls, and each party's calls alone. The first has positions 0 to 3 and works in Lsb0, the second
-// positions 4 to 7 and works in Msb0. Each party gets the same answers and the same half of the byte in both runs.
+// Two parties in one byte: a mixture of their calls, and each party's calls alone. The first party has positions 0 to 3 and works in Lsb0,
+// the second has positions 4 to 7 and works in Msb0. Each gets the same answers and the same half of the byte in both runs.
 use requests::Request;
 use requests::Side;
 use rules::Number;
@@ -9,20 +9,22 @@ use rules::Sign;
 use rules::Significance;
 use rules::Span;
 
+// The first party's half of the byte: positions 0 to 3.
 fn low() -> Span {
     Span::new(Order::Lsb0, 0, 0, 4)
 }
 
+// The second party's half of the byte: positions 7 down to 4.
 fn high() -> Span {
     Span::new(Order::Msb0, 0, 0, 4)
 }
 
-// A span whose head is W: every call on it is refused.
+// A span whose head is past the byte: every call on it is refused.
 fn beyond() -> Span {
     Span::new(Order::Msb0, 0, 8, 1)
 }
 
-// Performs a request and prints what it answers.
+// Performs a request and prints a line with what it answers. The second buffer holds four ones for the request that wants them.
 fn step(name: &[u8], words: &mut [u8], request: Request) {
     let other = [0x0Fu8];
     show::text(name);
@@ -30,6 +32,7 @@ fn step(name: &[u8], words: &mut [u8], request: Request) {
     show::end();
 }
 
+// The first party stores a number that fits its half.
 fn store_nine(words: &mut [u8]) {
     step(
         b"first   store 9                   | ",
@@ -38,6 +41,7 @@ fn store_nine(words: &mut [u8]) {
     );
 }
 
+// The first party stores a number that does not fit, strictly, and is refused.
 fn store_sixteen(words: &mut [u8]) {
     step(
         b"first   store 16 strictly         | ",
@@ -46,6 +50,7 @@ fn store_sixteen(words: &mut [u8]) {
     );
 }
 
+// The first party loads its half.
 fn load_low(words: &mut [u8]) {
     step(
         b"first   load                      | ",
@@ -54,6 +59,7 @@ fn load_low(words: &mut [u8]) {
     );
 }
 
+// The first party turns every bit of its half.
 fn turn_low(words: &mut [u8]) {
     step(
         b"first   xor with four ones        | ",
@@ -62,6 +68,7 @@ fn turn_low(words: &mut [u8]) {
     );
 }
 
+// The second party seeks its first zero.
 fn find_zero(words: &mut [u8]) {
     step(
         b"second  first zero                | ",
@@ -70,6 +77,7 @@ fn find_zero(words: &mut [u8]) {
     );
 }
 
+// The second party moves two bits inside its half.
 fn move_two(words: &mut [u8]) {
     step(
         b"second  copy 2 bits from 0 to 1   | ",
@@ -78,6 +86,7 @@ fn move_two(words: &mut [u8]) {
     );
 }
 
+// The second party loads its half.
 fn load_high(words: &mut [u8]) {
     step(
         b"second  load                      | ",
@@ -86,6 +95,7 @@ fn load_high(words: &mut [u8]) {
     );
 }
 
+// The second party reads a bit outside the byte, and is refused.
 fn read_beyond(words: &mut [u8]) {
     step(
         b"second  read a bit at head 8      | ",
@@ -94,6 +104,7 @@ fn read_beyond(words: &mut [u8]) {
     );
 }
 
+// The second party compares its half with itself.
 fn compare_high(words: &mut [u8]) {
     step(
         b"second  compare with itself       | ",
@@ -102,6 +113,7 @@ fn compare_high(words: &mut [u8]) {
     );
 }
 
+// Performs the calls of both parties, in turns. Each party's stand in the same order as when it is alone.
 fn mixed(words: &mut [u8]) {
     store_nine(words);
     find_zero(words);
@@ -114,6 +126,7 @@ fn mixed(words: &mut [u8]) {
     turn_low(words);
 }
 
+// Performs the first party's calls alone.
 fn first_alone(words: &mut [u8]) {
     store_nine(words);
     store_sixteen(words);
@@ -121,6 +134,7 @@ fn first_alone(words: &mut [u8]) {
     turn_low(words);
 }
 
+// Performs the second party's calls alone.
 fn second_alone(words: &mut [u8]) {
     find_zero(words);
     move_two(words);
@@ -129,13 +143,15 @@ fn second_alone(words: &mut [u8]) {
     compare_high(words);
 }
 
+// Prints the byte that a run leaves.
 fn left_with(word: u8) {
     show::text(b"the byte                          | ");
-    show::hex(word as u64);
+    show::byte(word);
     show::end();
     show::end();
 }
 
+// Prints the three runs, each on B4.
 fn main() {
     show::text(b"both, on B4\n");
     let mut both = [0xB4u8];

@@ -4,6 +4,8 @@ mod rows;
 mod searches;
 mod words;
 
+use records::calls::EQUAL;
+use records::calls::STORE_STRICT;
 use records::parts::call_of;
 use records::places::first_after_at;
 use records::places::first_at;
@@ -16,14 +18,15 @@ use records::seen::Given;
 use records::seen::Seen;
 use word64::Word;
 
-// The same, on words of which there are at least as many.
+// Makes the call of a well-formed record on lent words, and gives what is seen after it. The caller's two buffers have room for as many
+// words as a record lends; what they hold is overwritten.
 pub fn seen(record: &[u8], first: &mut [Word], second: &mut [Word]) -> Seen {
     let lent = lendable(first_lent(record), first.len());
     let other = lendable(second_lent(record), second.len());
     seen_on(record, &mut first[0..lent], &mut second[0..other])
 }
 
-// What is seen after the call, on words as many as the record lends.
+// The same, on exactly as many words as the record lends.
 fn seen_on(record: &[u8], first: &mut [Word], second: &mut [Word]) -> Seen {
     words::fill(first, record, first_at(record));
     words::fill(second, record, second_at(record));
@@ -37,13 +40,13 @@ fn seen_on(record: &[u8], first: &mut [Word], second: &mut [Word]) -> Seen {
     }
 }
 
-// Makes the call, one of 4 to 17, on words that are set.
+// Makes the call on words that are set. Calls on bits and fields have the lowest numbers, then come those on rows, then the searches.
 fn made(record: &[u8], first: &mut [Word], second: &mut [Word]) -> Given {
     let call = call_of(record);
-    if call < 9 {
+    if call <= STORE_STRICT {
         return fields::made(record, first);
     }
-    if call < 14 {
+    if call <= EQUAL {
         return rows::made(record, first, second);
     }
     searches::made(record, first)

@@ -1,4 +1,19 @@
-// A record's call on single bits and fields of 8-bit words. Each function makes the exported call of its name with the record's arguments.
+// A record's call on single bits and fields of 8-bit words, made through the exported functions with the record's arguments.
+use records::arguments::BELOW;
+use records::arguments::BIT;
+use records::arguments::HEAD;
+use records::arguments::INDEX;
+use records::arguments::K;
+use records::arguments::LENGTH;
+use records::arguments::ORDER;
+use records::arguments::SIGN;
+use records::arguments::SIGNIFICANCE;
+use records::arguments::VALUE;
+use records::arguments::WORD;
+use records::calls::LOAD;
+use records::calls::READ_BIT;
+use records::calls::STORE;
+use records::calls::WRITE_BIT;
 use records::parts::call_of;
 use records::parts::code;
 use records::parts::number;
@@ -8,84 +23,89 @@ use records::seen::Given;
 use stableply::fields8;
 use word8::Word;
 
-// Makes the call, one of 4 to 8.
+// Makes the call on a bit or a field that the record names.
 pub fn made(record: &[u8], words: &mut [Word]) -> Given {
     match call_of(record) {
-        4 => read_bit(record, words),
-        5 => write_bit(record, words),
-        6 => load(record, words),
-        7 => store(record, words),
+        READ_BIT => read_bit(record, words),
+        WRITE_BIT => write_bit(record, words),
+        LOAD => load(record, words),
+        STORE => store(record, words),
         _ => store_strict(record, words),
     }
 }
 
+// Stores the record's value where it fits.
 fn store_strict(record: &[u8], words: &mut [Word]) -> Given {
     seen::none(fields8::stableply8_store_strict(
         words,
-        code(record, 1),
-        size(record, 2),
-        size(record, 3),
-        size(record, 4),
-        size(record, 5),
-        code(record, 6),
-        code(record, 7),
-        code(record, 8),
-        number(record, 9),
+        code(record, ORDER),
+        size(record, WORD),
+        size(record, HEAD),
+        size(record, LENGTH),
+        size(record, K),
+        code(record, SIGNIFICANCE),
+        code(record, SIGN),
+        code(record, BELOW),
+        number(record, VALUE),
     ))
 }
 
+// Stores the low bits of the record's value.
 fn store(record: &[u8], words: &mut [Word]) -> Given {
     seen::none(fields8::stableply8_store(
         words,
-        code(record, 1),
-        size(record, 2),
-        size(record, 3),
-        size(record, 4),
-        size(record, 5),
-        code(record, 6),
-        code(record, 7),
-        code(record, 8),
-        number(record, 9),
+        code(record, ORDER),
+        size(record, WORD),
+        size(record, HEAD),
+        size(record, LENGTH),
+        size(record, K),
+        code(record, SIGNIFICANCE),
+        code(record, SIGN),
+        code(record, BELOW),
+        number(record, VALUE),
     ))
 }
 
+// Loads a field as the record asks. Its out-value is the number.
 fn load(record: &[u8], words: &[Word]) -> Given {
     let mut out: u64 = 0;
     let returned = fields8::stableply8_load(
         words,
-        code(record, 1),
-        size(record, 2),
-        size(record, 3),
-        size(record, 4),
-        size(record, 5),
-        code(record, 6),
-        code(record, 7),
+        code(record, ORDER),
+        size(record, WORD),
+        size(record, HEAD),
+        size(record, LENGTH),
+        size(record, K),
+        code(record, SIGNIFICANCE),
+        code(record, SIGN),
         &mut out,
     );
     seen::one(returned, out)
 }
 
+// Writes a bit as the record asks.
 fn write_bit(record: &[u8], words: &mut [Word]) -> Given {
     seen::none(fields8::stableply8_write_bit(
         words,
-        code(record, 1),
-        size(record, 2),
-        size(record, 3),
-        size(record, 4),
-        size(record, 5),
-        code(record, 6),
+        code(record, ORDER),
+        size(record, WORD),
+        size(record, HEAD),
+        size(record, LENGTH),
+        size(record, INDEX),
+        code(record, BIT),
     ))
 }
 
+// Reads a bit as the record asks. Its out-value is the bit.
 fn read_bit(record: &[u8], words: &[Word]) -> Given {
     let mut out = 0u8;
     let returned = fields8::stableply8_read_bit(
         words,
-        code(record, 1),
-        size(record, 2),
-        size(record, 3),
-        size(record, 4),
-        size(record, 5),
+        code(record, ORDER),
+        size(record, WORD),
+        size(record, HEAD),
+        size(record, LENGTH),
+        size(record, INDEX),
         &mut out,
     );
     seen::one(returned, out as u64)

@@ -1,4 +1,20 @@
-// A record's call on rows of 8-bit words. Each function makes the exported call of its name with the record's arguments.
+// A record's call on rows of 8-bit words, made through the exported functions with the record's arguments.
+use records::arguments::COUNT;
+use records::arguments::DESTINATION;
+use records::arguments::HEAD;
+use records::arguments::LENGTH;
+use records::arguments::OPERATION;
+use records::arguments::ORDER;
+use records::arguments::SECOND_HEAD;
+use records::arguments::SECOND_LENGTH;
+use records::arguments::SECOND_ORDER;
+use records::arguments::SECOND_WORD;
+use records::arguments::START;
+use records::arguments::WORD;
+use records::calls::BOOLEAN;
+use records::calls::COPY_FROM;
+use records::calls::COPY_WITHIN;
+use records::calls::SWAP;
 use records::parts::call_of;
 use records::parts::code;
 use records::parts::size;
@@ -7,90 +23,95 @@ use records::seen::Given;
 use stableply::rows8;
 use word8::Word;
 
-// Makes the call, one of 9 to 13.
+// Makes the call on rows that the record names.
 pub fn made(record: &[u8], first: &mut [Word], second: &mut [Word]) -> Given {
     match call_of(record) {
-        9 => copy_from(record, first, second),
-        10 => copy_within(record, first),
-        11 => boolean(record, first, second),
-        12 => swap(record, first, second),
+        COPY_FROM => copy_from(record, first, second),
+        COPY_WITHIN => copy_within(record, first),
+        BOOLEAN => boolean(record, first, second),
+        SWAP => swap(record, first, second),
         _ => equal(record, first, second),
     }
 }
 
+// Compares the spans of the two buffers. Its out-value says whether they are equal.
 fn equal(record: &[u8], left: &[Word], right: &[Word]) -> Given {
     let mut out = 0u8;
     let returned = rows8::stableply8_equal(
         left,
-        code(record, 1),
-        size(record, 2),
-        size(record, 3),
-        size(record, 4),
+        code(record, ORDER),
+        size(record, WORD),
+        size(record, HEAD),
+        size(record, LENGTH),
         right,
-        code(record, 6),
-        size(record, 7),
-        size(record, 8),
-        size(record, 9),
+        code(record, SECOND_ORDER),
+        size(record, SECOND_WORD),
+        size(record, SECOND_HEAD),
+        size(record, SECOND_LENGTH),
         &mut out,
     );
     seen::one(returned, out as u64)
 }
 
+// Exchanges the spans of the two buffers.
 fn swap(record: &[u8], left: &mut [Word], right: &mut [Word]) -> Given {
     seen::none(rows8::stableply8_swap(
         left,
-        code(record, 1),
-        size(record, 2),
-        size(record, 3),
-        size(record, 4),
+        code(record, ORDER),
+        size(record, WORD),
+        size(record, HEAD),
+        size(record, LENGTH),
         right,
-        code(record, 6),
-        size(record, 7),
-        size(record, 8),
-        size(record, 9),
+        code(record, SECOND_ORDER),
+        size(record, SECOND_WORD),
+        size(record, SECOND_HEAD),
+        size(record, SECOND_LENGTH),
     ))
 }
 
+// Joins the words lent first with those lent second by the record's operation.
 fn boolean(record: &[u8], words: &mut [Word], right: &[Word]) -> Given {
     seen::none(rows8::stableply8_boolean(
         words,
-        code(record, 1),
-        size(record, 2),
-        size(record, 3),
-        size(record, 4),
+        code(record, ORDER),
+        size(record, WORD),
+        size(record, HEAD),
+        size(record, LENGTH),
         right,
-        code(record, 6),
-        size(record, 7),
-        size(record, 8),
-        size(record, 9),
-        code(record, 10),
+        code(record, SECOND_ORDER),
+        size(record, SECOND_WORD),
+        size(record, SECOND_HEAD),
+        size(record, SECOND_LENGTH),
+        code(record, OPERATION),
     ))
 }
 
+// Copies within the words lent first.
 fn copy_within(record: &[u8], words: &mut [Word]) -> Given {
     seen::none(rows8::stableply8_copy_within(
         words,
-        code(record, 1),
-        size(record, 2),
-        size(record, 3),
-        size(record, 4),
-        size(record, 5),
-        size(record, 6),
-        size(record, 7),
+        code(record, ORDER),
+        size(record, WORD),
+        size(record, HEAD),
+        size(record, LENGTH),
+        size(record, START),
+        size(record, COUNT),
+        size(record, DESTINATION),
     ))
 }
 
+// Copies from the words lent second to those lent first.
 fn copy_from(record: &[u8], words: &mut [Word], source: &[Word]) -> Given {
     seen::none(rows8::stableply8_copy_from(
         words,
-        code(record, 1),
-        size(record, 2),
-        size(record, 3),
-        size(record, 4),
+        code(record, ORDER),
+        size(record, WORD),
+        size(record, HEAD),
+        size(record, LENGTH),
         source,
-        code(record, 6),
-        size(record, 7),
-        size(record, 8),
-        size(record, 9),
+        code(record, SECOND_ORDER),
+        size(record, SECOND_WORD),
+        size(record, SECOND_HEAD),
+        size(record, SECOND_LENGTH),
     ))
 }

@@ -1,21 +1,25 @@
-// Numbers in the bytes of a record, the lowest byte first.
+// Numbers and words in the bytes of a record, the lowest byte first.
 
-// The byte at a place.
+// How many bytes a number has.
+pub const NUMBER_BYTES: usize = 8;
+
+// The most words of one buffer whose bytes a record holds. Where more are lent, all of them are 0 and have no bytes.
+pub const MOST_HELD: usize = 64;
+
+// The last place that words are read from. A record tells its length in two bytes, so that none reaches further.
+const LAST_PLACE: usize = 65535;
+
+// The byte at a place, 0 past the end.
 pub fn byte_at(record: &[u8], at: usize) -> u8 {
     if at < record.len() { record[at] } else { 0 }
 }
 
-// A byte as a number.
-fn wide(byte: u8) -> u64 {
-    byte as u64
-}
-
-// The number whose eight bytes begin at a place.
+// The number that begins at a place, 0 where its bytes are not all there.
 pub fn number_at(record: &[u8], at: usize) -> u64 {
-    if record.len() < 8 {
+    if record.len() < NUMBER_BYTES {
         return 0;
     }
-    if record.len() - 8 < at {
+    if record.len() - NUMBER_BYTES < at {
         return 0;
     }
     let low = wide(record[at])
@@ -29,24 +33,29 @@ pub fn number_at(record: &[u8], at: usize) -> u64 {
     low | high << 32
 }
 
-// The word of 64 bits at an index of those that begin at a place. More than 64 words have no place in a record.
+// Word `index` of the words of 64 bits that begin at a place, 0 where a record has none.
 pub fn word64_at(record: &[u8], at: usize, index: usize) -> u64 {
-    if 65535 < at {
+    if LAST_PLACE < at {
         return 0;
     }
-    if 63 < index {
+    if MOST_HELD <= index {
         return 0;
     }
-    number_at(record, at + 8 * index)
+    number_at(record, at + NUMBER_BYTES * index)
 }
 
-// The word of 8 bits.
+// Word `index` of the words of 8 bits that begin at a place, 0 where a record has none.
 pub fn word8_at(record: &[u8], at: usize, index: usize) -> u8 {
-    if 65535 < at {
+    if LAST_PLACE < at {
         return 0;
     }
-    if 63 < index {
+    if MOST_HELD <= index {
         return 0;
     }
     byte_at(record, at + index)
+}
+
+// A byte as a number, to be shifted to its place in one.
+fn wide(byte: u8) -> u64 {
+    byte as u64
 }

@@ -1,41 +1,77 @@
-// The parts of a record in front of its words: what the call was, its arguments and its results; and what calls have and do.
+// The parts of a record in front of its words: which call it is, and the call's arguments and results.
+use crate::calls::MOST_ARGUMENTS;
+use crate::calls::arguments_of;
+use crate::calls::results_of;
+use crate::numbers::NUMBER_BYTES;
 use crate::numbers::byte_at;
 use crate::numbers::number_at;
 ghost use Prim.Native.Nat.{_≤_};
 
+// Where a record has the call's number.
+const CALL_AT: usize = 0;
+
+// Where it has the width.
+const WIDTH_AT: usize = 1;
+
+// Where it has what the call returned.
+const RETURNED_AT: usize = 2;
+
+// Where it says whose answer it is.
+const WHOSE_AT: usize = 3;
+
+// Where it has its length, in two bytes.
+const LENGTH_AT: usize = 4;
+
+// Where it has two bytes that mean nothing and are 0.
+const SPARE_AT: usize = 6;
+
+// How many bytes stand in front of the arguments.
+pub const FRONT_BYTES: usize = 8;
+
+// An answer that bitvec gave.
+pub const BITVECS: u8 = 0;
+
+// An answer that only the model of the rules gave, since bitvec has none.
+pub const MODELS: u8 = 1;
+
 // The call's number.
 pub fn call_of(record: &[u8]) -> u8 {
-    byte_at(record, 0)
+    byte_at(record, CALL_AT)
 }
 
 // The width, 8 or 64, or for calls without lent words what is asked as one.
 pub fn width_of(record: &[u8]) -> u8 {
-    byte_at(record, 1)
+    byte_at(record, WIDTH_AT)
 }
 
 // What the call returned.
 pub fn returned(record: &[u8]) -> u8 {
-    byte_at(record, 2)
+    byte_at(record, RETURNED_AT)
 }
 
-// Whose answer it is: 0 bitvec's, 1 the model's alone.
+// Whose answer it is: `BITVECS` or `MODELS`.
 pub fn whose(record: &[u8]) -> u8 {
-    byte_at(record, 3)
+    byte_at(record, WHOSE_AT)
 }
 
 // The length that the record gives itself.
 pub fn length_of(record: &[u8]) -> usize
     ensures { λ r. ⌜ r ≤ 65535 ⌝ }
 {
-    byte_at(record, 4) as usize + byte_at(record, 5) as usize * 256
+    byte_at(record, LENGTH_AT) as usize + byte_at(record, LENGTH_AT + 1) as usize * 256
 }
 
-// The argument at an index.
+// Whether the bytes that mean nothing are 0.
+pub fn is_spare_zero(record: &[u8]) -> bool {
+    byte_at(record, SPARE_AT) == 0 && byte_at(record, SPARE_AT + 1) == 0
+}
+
+// The argument at an index, which the module `arguments` names. No call has one past the last index, and it reads as 0.
 pub fn number(record: &[u8], index: usize) -> u64 {
-    if 11 < index {
+    if MOST_ARGUMENTS <= index {
         return 0;
     }
-    number_at(record, 8 + 8 * index)
+    number_at(record, FRONT_BYTES + NUMBER_BYTES * index)
 }
 
 // The same, of an argument that counts words or bits.
@@ -43,71 +79,26 @@ pub fn size(record: &[u8], index: usize) -> usize {
     number(record, index) as usize
 }
 
-// The same, of an argument that is a code.
+// The same, of an argument that is a code: its lowest byte, which is all of it in a well-formed record.
 pub fn code(record: &[u8], index: usize) -> u8 {
-    if 11 < index {
+    if MOST_ARGUMENTS <= index {
         return 0;
     }
-    byte_at(record, 8 + 8 * index)
+    byte_at(record, FRONT_BYTES + NUMBER_BYTES * index)
 }
 
-// How many arguments a call has, pointers left out.
-pub fn arguments_of(call: u8) -> usize
-    ensures { λ r. ⌜ r ≤ 11 ⌝ }
-{
-    match call {
-        0 | 1 => 3,
-        2 => 4,
-        3 => 7,
-        4 => 6,
-        5 => 7,
-        6 | 10 => 8,
-        7 | 8 | 9 | 12 | 13 => 10,
-        11 => 11,
-        _ => 5,
-    }
-}
-
-// How many results.
-pub fn results_of(call: u8) -> usize
-    ensures { λ r. ⌜ r ≤ 3 ⌝ }
-{
-    match call {
-        0 | 1 | 2 | 4 | 6 | 13 => 1,
-        3 => 3,
-        14 | 15 | 16 | 17 => 2,
-        _ => 0,
-    }
-}
-
-// Whether a call is lent words twice.
-pub fn lends_twice(call: u8) -> bool {
-    match call {
-        9 | 11 | 12 | 13 => true,
-        _ => false,
-    }
-}
-
-// Whether a call may write the words lent first.
-pub fn writes(call: u8) -> bool {
-    match call {
-        5 | 7 | 8 | 9 | 10 | 11 | 12 => true,
-        _ => false,
-    }
-}
-
-// Where the results begin.
+// Where the results of a call begin.
 pub fn results_at(call: u8) -> usize
     ensures { λ r. ⌜ r ≤ 96 ⌝ }
 {
-    8 + 8 * arguments_of(call)
+    FRONT_BYTES + NUMBER_BYTES * arguments_of(call)
 }
 
 // The result at an index, 0 where the call has fewer.
 pub fn result(record: &[u8], index: usize) -> u64 {
     let call = call_of(record);
     if index < results_of(call) {
-        return number_at(record, results_at(call) + 8 * index);
+        return number_at(record, results_at(call) + NUMBER_BYTES * index);
     }
     0
 }

@@ -1,58 +1,41 @@
-// Lent words in a record: how many there are, and where they stand.
+// Lent words in a record: how many there are, and where they stand. The words lent first come before those lent second, as they are before
+// the call; then, as they are after it, those that the call may write.
+use crate::arguments::LENT;
+use crate::arguments::SECOND_LENT;
+use crate::calls::lends;
+use crate::calls::lends_twice;
+use crate::calls::results_of;
+use crate::calls::writes;
+use crate::calls::writes_both;
+use crate::numbers::MOST_HELD;
+use crate::numbers::NUMBER_BYTES;
 use crate::parts::call_of;
-use crate::parts::lends_twice;
 use crate::parts::results_at;
-use crate::parts::results_of;
 use crate::parts::size;
 use crate::parts::width_of;
-use crate::parts::writes;
 ghost use Prim.Native.Nat.{_≤_};
 
-// How many words are lent first.
+// How many words are lent first, 0 for a call without lent words.
 pub fn first_lent(record: &[u8]) -> usize {
-    if call_of(record) < 4 {
-        return 0;
-    }
-    size(record, 0)
-}
-
-// How many second.
-pub fn second_lent(record: &[u8]) -> usize {
-    if lends_twice(call_of(record)) {
-        return size(record, 5);
+    if lends(call_of(record)) {
+        return size(record, LENT);
     }
     0
 }
 
-// No more words than there are to lend.
+// How many words are lent second, 0 for a call with one buffer or none.
+pub fn second_lent(record: &[u8]) -> usize {
+    if lends_twice(call_of(record)) {
+        return size(record, SECOND_LENT);
+    }
+    0
+}
+
+// As many words as a record lends, but no more than there are: a well-formed record asks for no more.
 pub fn lendable(lent: usize, most: usize) -> usize
     ensures { λ r. ⌜ r ≤ most ⌝ }
 {
     if most < lent { most } else { lent }
-}
-
-// How many bytes of a record so many words take.
-fn bytes_of(lent: usize, width: u8) -> usize
-    ensures { λ r. ⌜ r ≤ 512 ⌝ }
-{
-    if 64 < lent {
-        return 0;
-    }
-    if width == 8 { lent } else { lent * 8 }
-}
-
-// How many the words lent first take.
-fn first_bytes(record: &[u8]) -> usize
-    ensures { λ r. ⌜ r ≤ 512 ⌝ }
-{
-    bytes_of(first_lent(record), width_of(record))
-}
-
-// How many those lent second.
-fn second_bytes(record: &[u8]) -> usize
-    ensures { λ r. ⌜ r ≤ 512 ⌝ }
-{
-    bytes_of(second_lent(record), width_of(record))
 }
 
 // Where the words lent first stand, as they are before the call.
@@ -60,21 +43,14 @@ pub fn first_at(record: &[u8]) -> usize
     ensures { λ r. ⌜ r ≤ 120 ⌝ }
 {
     let call = call_of(record);
-    results_at(call) + 8 * results_of(call)
+    results_at(call) + NUMBER_BYTES * results_of(call)
 }
 
-// Where those lent second stand.
+// Where the words lent second stand, as they are before the call.
 pub fn second_at(record: &[u8]) -> usize
     ensures { λ r. ⌜ r ≤ 632 ⌝ }
 {
     first_at(record) + first_bytes(record)
-}
-
-// Where the words as they are before the call end.
-fn before_end(record: &[u8]) -> usize
-    ensures { λ r. ⌜ r ≤ 1144 ⌝ }
-{
-    second_at(record) + second_bytes(record)
 }
 
 // Where the words lent first stand as they are after the call: for a call that writes nothing, as before it.
@@ -85,8 +61,31 @@ pub fn first_after_at(record: &[u8]) -> usize {
     first_at(record)
 }
 
-// Where the words lent first end, as they are after it.
-fn first_end(record: &[u8]) -> usize
+// Where the words lent second stand as they are after the call: for a call that does not write them, as before it.
+pub fn second_after_at(record: &[u8]) -> usize {
+    if writes_both(call_of(record)) {
+        return first_after_end(record);
+    }
+    second_at(record)
+}
+
+// The length that a record of this call and of so many lent words has.
+pub fn due_length(record: &[u8]) -> usize {
+    if writes_both(call_of(record)) {
+        return first_after_end(record) + second_bytes(record);
+    }
+    first_after_end(record)
+}
+
+// Where the words as they are before the call end.
+fn before_end(record: &[u8]) -> usize
+    ensures { λ r. ⌜ r ≤ 1144 ⌝ }
+{
+    second_at(record) + second_bytes(record)
+}
+
+// Where the words lent first end as they are after the call. For a call that writes nothing the record ends there.
+fn first_after_end(record: &[u8]) -> usize
     ensures { λ r. ⌜ r ≤ 1656 ⌝ }
 {
     if writes(call_of(record)) {
@@ -95,18 +94,26 @@ fn first_end(record: &[u8]) -> usize
     before_end(record)
 }
 
-// The same of the words lent second, which only swap may write.
-pub fn second_after_at(record: &[u8]) -> usize {
-    if call_of(record) == 12 {
-        return first_end(record);
-    }
-    second_at(record)
+// How many bytes the words lent first take.
+fn first_bytes(record: &[u8]) -> usize
+    ensures { λ r. ⌜ r ≤ 512 ⌝ }
+{
+    bytes_of(first_lent(record), width_of(record))
 }
 
-// The length that a record of this call and of so many lent words has.
-pub fn due_length(record: &[u8]) -> usize {
-    if call_of(record) == 12 {
-        return first_end(record) + second_bytes(record);
+// How many bytes the words lent second take.
+fn second_bytes(record: &[u8]) -> usize
+    ensures { λ r. ⌜ r ≤ 512 ⌝ }
+{
+    bytes_of(second_lent(record), width_of(record))
+}
+
+// How many bytes of a record so many words take.
+fn bytes_of(lent: usize, width: u8) -> usize
+    ensures { λ r. ⌜ r ≤ 512 ⌝ }
+{
+    if MOST_HELD < lent {
+        return 0;
     }
-    first_end(record)
+    if width == 8 { lent } else { lent * 8 }
 }

@@ -2,7 +2,7 @@
 use crate::parts::result;
 use crate::parts::returned;
 
-// A returned code and the out-values after the call; those that the call lacks are 0.
+// What a call returned, and its out-values in their order. Those that the call lacks are 0, as a record's missing results are.
 pub struct Given {
     pub code: u8,
     pub first: u64,
@@ -10,7 +10,7 @@ pub struct Given {
     pub third: u64,
 }
 
-// Where lent words first differ from a record's.
+// Whether the words of one buffer are a record's after the call, or the first of them that is not.
 pub enum Spot {
     Same,
     Differs {
@@ -20,29 +20,29 @@ pub enum Spot {
     },
 }
 
-// All that is seen after a call.
+// All that can be seen after a call: what it gave, and the words lent first and second.
 pub struct Seen {
     pub given: Given,
     pub first: Spot,
     pub second: Spot,
 }
 
-// A call without out-values.
+// What a call without out-values gave.
 pub fn none(code: u8) -> Given {
     three(code, 0, 0, 0)
 }
 
-// A call with one.
+// What a call with one out-value gave.
 pub fn one(code: u8, first: u64) -> Given {
     three(code, first, 0, 0)
 }
 
-// With two.
+// What a call with two out-values gave.
 pub fn two(code: u8, first: u64, second: u64) -> Given {
     three(code, first, second, 0)
 }
 
-// With three.
+// What a call with three out-values gave.
 pub fn three(code: u8, first: u64, second: u64, third: u64) -> Given {
     Given {
         code,
@@ -52,7 +52,7 @@ pub fn three(code: u8, first: u64, second: u64, third: u64) -> Given {
     }
 }
 
-// A call that is lent no words.
+// What is seen after a call that is lent no words.
 pub fn wordless(given: Given) -> Seen {
     Seen {
         given,
@@ -61,23 +61,23 @@ pub fn wordless(given: Given) -> Seen {
     }
 }
 
-// Whether no word differs.
-fn is_same(spot: Spot) -> bool {
-    if let Spot::Same = spot { true } else { false }
-}
-
-// Whether the code and the out-values are the record's.
-pub fn is_expected(record: &[u8], given: Given) -> bool {
-    given.code == returned(record)
-        && given.first == result(record, 0)
-        && given.second == result(record, 1)
-        && given.third == result(record, 2)
-}
-
 // Whether all that is seen is the record's.
 pub fn agrees(record: &[u8], seen: Seen) -> bool {
     let given = seen.given;
     let first = seen.first;
     let second = seen.second;
     is_expected(record, given) && is_same(first) && is_same(second)
+}
+
+// Whether the returned code and the out-values are the record's.
+fn is_expected(record: &[u8], given: Given) -> bool {
+    given.code == returned(record)
+        && given.first == result(record, 0)
+        && given.second == result(record, 1)
+        && given.third == result(record, 2)
+}
+
+// Whether the words of a buffer are the record's.
+fn is_same(spot: Spot) -> bool {
+    if let Spot::Same = spot { true } else { false }
 }

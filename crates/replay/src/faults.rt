@@ -1,14 +1,10 @@
 // Why a file, or a record of it, cannot be replayed.
 use records::form::Fault;
+use records::input::LONGEST;
 use records::input::Next;
+use records::input::SHORTEST;
 
-// How the line on a record begins.
-fn begin(number: u64) {
-    show::text(b"record ");
-    show::decimal(number);
-}
-
-// A record that is not whole, or of a length that none has.
+// Says why a record could not be read.
 pub fn unread(number: u64, next: Next) {
     begin(number);
     match next {
@@ -18,16 +14,13 @@ pub fn unread(number: u64, next: Next) {
                 b" is cut short: the file ends before or in it, or cannot be read further\n",
             );
         }
-        Next::Unlikely(length) => {
-            show::text(b" has a length of ");
-            show::decimal(length as u64);
-            show::text(b" bytes; the shortest has 32, the longest 216\n");
-        }
+        Next::Unlikely(length) => unlikely(length),
     }
 }
 
-// What is wrong, as the end of a line.
-fn fault(no: Fault) {
+// Says what is wrong with a record that was read.
+pub fn malformed(number: u64, no: Fault) {
+    begin(number);
     match no {
         Fault::Nothing => show::text(b" is well formed\n"),
         Fault::Call => show::text(b" has no call's number\n"),
@@ -40,8 +33,19 @@ fn fault(no: Fault) {
     }
 }
 
-// A record that is malformed.
-pub fn malformed(number: u64, no: Fault) {
-    begin(number);
-    fault(no);
+// Begins the line on a record.
+fn begin(number: u64) {
+    show::text(b"record ");
+    show::decimal(number);
+}
+
+// Ends the line on a record of a length that none has.
+fn unlikely(length: usize) {
+    show::text(b" has a length of ");
+    show::decimal(length as u64);
+    show::text(b" bytes; the shortest has ");
+    show::decimal(SHORTEST as u64);
+    show::text(b", the longest ");
+    show::decimal(LONGEST as u64);
+    show::end();
 }

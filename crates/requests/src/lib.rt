@@ -7,13 +7,14 @@ use rules::Sign;
 use rules::Significance;
 use rules::Span;
 
-// Where a side of a comparison lies: in the buffer itself, or in the second, read-only one.
+// Where a side of a comparison lies: here, in the buffer itself, or there, in the second one, which is only read.
 pub enum Side {
     Here,
     There,
 }
 
-// The calls and their arguments. A second, read-only buffer is handed over beside the request.
+// A call on one buffer with its arguments. A comparison says of each span on which side it lies, and a search which bit it seeks. The words
+// are no part of a request: the buffer, and a second one that is only read, are handed over beside it.
 pub enum Request {
     ReadBit(Span, usize),
     WriteBit(Span, usize, bool),
@@ -28,7 +29,8 @@ pub enum Request {
     FindLast(bool, Span),
 }
 
-// What they answer.
+// What a call answers: a refusal, that a write is done, the bit that was read, the number that was loaded, whether rows are equal, or where
+// a search found its bit, if anywhere.
 pub enum Reply {
     Refused(Refusal),
     Done,

@@ -1,4 +1,4 @@
-// The answers of the single calls, as replies.
+// From the answer of each call to the reply that says the same.
 use crate::Reply;
 use rules::BitAnswer;
 use rules::EqualAnswer;
@@ -10,7 +10,7 @@ ghost use Rattle.rules.specs.Answers.{bitSays, numberSays, writeSays, equalSays
 ghost use Rattle.requests.specs.Requests.{replySays};
 
 impl Reply {
-    // A read bit.
+    // The reply that says what reading a bit answered.
     pub fn of_bit(answer: BitAnswer) -> Reply
         ensures { λ r. ⌜ replySays r ≡ bitSays answer ⌝ }
     {
@@ -20,7 +20,7 @@ impl Reply {
         }
     }
 
-    // A loaded number.
+    // The reply that says what a load answered.
     pub fn of_number(answer: NumberAnswer) -> Reply
         ensures { λ r. ⌜ replySays r ≡ numberSays answer ⌝ }
     {
@@ -30,7 +30,7 @@ impl Reply {
         }
     }
 
-    // A write.
+    // The reply that says what a write answered.
     pub fn of_write(answer: WriteAnswer) -> Reply
         ensures { λ r. ⌜ replySays r ≡ writeSays answer ⌝ }
     {
@@ -40,7 +40,7 @@ impl Reply {
         }
     }
 
-    // A comparison.
+    // The reply that says what a comparison answered.
     pub fn of_equal(answer: EqualAnswer) -> Reply
         ensures { λ r. ⌜ replySays r ≡ equalSays answer ⌝ }
     {
@@ -51,7 +51,7 @@ impl Reply {
         }
     }
 
-    // A search.
+    // The reply that says what a search answered.
     pub fn of_search(answer: SearchAnswer) -> Reply
         ensures { λ r. ⌜ replySays r ≡ searchSays answer ⌝ }
     {

@@ -5,6 +5,7 @@ use rules::Sign;
 use rules::Significance;
 use rules::Span;
 
+// Prints three tables, each with a column for each order: loads, stores, and the limits of both.
 pub fn run() {
     show::text(b"fields in B4 6C F1                       | Lsb0 | Msb0\n");
     eight_bits();
@@ -21,6 +22,7 @@ pub fn run() {
     show::end();
 }
 
+// Loads of 8 bits that lie in two bytes.
 fn eight_bits() {
     load(
         b"head 4, 8 bits, le                       | ",
@@ -48,6 +50,7 @@ fn eight_bits() {
     );
 }
 
+// Loads of 3 bits of one byte.
 fn three_bits() {
     load(
         b"head 3, 3 bits, le                       | ",
@@ -67,6 +70,7 @@ fn three_bits() {
     );
 }
 
+// Loads of 16 bits that lie in three bytes.
 fn sixteen_bits() {
     load(
         b"head 4, 16 bits, le                      | ",
@@ -86,6 +90,7 @@ fn sixteen_bits() {
     );
 }
 
+// Stores of CB, the number that the first load gives in Lsb0.
 fn stores() {
     store(
         b"CB le at head 4, 8 bits                  | ",
@@ -105,6 +110,7 @@ fn stores() {
     );
 }
 
+// Loads at the last head of a byte and at the one past it, which is refused.
 fn heads() {
     load(
         b"load, head 7, 8 bits                     | ",
@@ -124,6 +130,7 @@ fn heads() {
     );
 }
 
+// Loads of as many bits as the number has, of one more and of none. The last two are refused.
 fn lengths() {
     load(
         b"load, K = 8, 8 bits                      | ",
@@ -151,6 +158,7 @@ fn lengths() {
     );
 }
 
+// Strict stores of the greatest value that fits, and of one more, as a number of 16 bits and of 8. Both of these are refused.
 fn values() {
     strict(
         b"strict store, 255 in 8 bits, K = 8       | ",
@@ -175,11 +183,12 @@ fn values() {
     );
 }
 
+// The span of `len` bits from a head of the first byte on.
 fn at(order: Order, head: usize, len: usize) -> Span {
     Span::new(order, 0, head, len)
 }
 
-// An unsigned number is shown in hexadecimal, a signed one in decimal.
+// Prints the line on a load. An unsigned number is shown in hexadecimal, a signed one in decimal.
 fn load(name: &[u8], head: usize, len: usize, k: usize, significance: Significance, sign: Sign) {
     let bytes = [0xB4u8, 0x6C, 0xF1];
     show::text(name);
@@ -200,14 +209,16 @@ fn load(name: &[u8], head: usize, len: usize, k: usize, significance: Significan
     show::end();
 }
 
+// Prints three bytes.
 fn three(a: u8, b: u8, c: u8) {
-    show::hex(a as u64);
+    show::byte(a);
     show::text(b" ");
-    show::hex(b as u64);
+    show::byte(b);
     show::text(b" ");
-    show::hex(c as u64);
+    show::byte(c);
 }
 
+// Prints the line on a store.
 fn store(
     name: &[u8],
     head: usize,
@@ -223,7 +234,7 @@ fn store(
     show::end();
 }
 
-// What a store leaves in three empty bytes.
+// Prints what a store leaves in three empty bytes.
 fn stored(
     order: Order,
     head: usize,
@@ -244,6 +255,7 @@ fn stored(
     three(bytes[0], bytes[1], bytes[2]);
 }
 
+// Prints the line on a strict store.
 fn strict(name: &[u8], head: usize, len: usize, k: usize, value: Number) {
     show::text(name);
     tried(Order::Lsb0, head, len, k, value);
@@ -252,7 +264,7 @@ fn strict(name: &[u8], head: usize, len: usize, k: usize, value: Number) {
     show::end();
 }
 
-// What a strict store answers, and what it leaves.
+// Prints what a strict store into three empty bytes answers, and what it leaves.
 fn tried(order: Order, head: usize, len: usize, k: usize, value: Number) {
     let mut bytes = [0u8, 0, 0];
     let answer = field8::store_strict(

@@ -3,6 +3,7 @@ use rules::Order;
 use rules::Span;
 use rules::Width;
 
+// Prints the table: a line for each request, a column for each width.
 pub fn run() {
     show::text(b"spans                                    | W = 8 | W = 64\n");
     heads();
@@ -14,6 +15,7 @@ pub fn run() {
     show::end();
 }
 
+// As many words as may be lent and one more, and heads at and past the last of either width.
 fn heads() {
     check(
         b"0:0+8 of 65,536 words                    | ",
@@ -35,6 +37,7 @@ fn heads() {
     check(b"0:64+1 of 2 words                        | ", 2, 0, 64, 1);
 }
 
+// Spans that end with the only word, and one bit past it, at either width.
 fn ends() {
     check(b"0:0+8 of 1 word                          | ", 1, 0, 0, 8);
     check(b"0:0+9 of 1 word                          | ", 1, 0, 0, 9);
@@ -42,6 +45,7 @@ fn ends() {
     check(b"0:0+65 of 1 word                         | ", 1, 0, 0, 65);
 }
 
+// Empty spans: at the very end of the words, where they are in bounds, and past it, where they are not.
 fn empty_spans() {
     check(b"1:0+0 of 1 word (empty, at the very end) | ", 1, 1, 0, 0);
     check(b"1:1+0 of 1 word                          | ", 1, 1, 1, 0);
@@ -49,6 +53,7 @@ fn empty_spans() {
     check(b"0:0+0 of no words                        | ", 0, 0, 0, 0);
 }
 
+// Spans whose sums pass 2^64. They are refused as whole numbers ask; a sum that wraps would accept some.
 fn large_numbers() {
     check(
         b"2^61:0+0 of 1 word                       | ",
@@ -80,6 +85,7 @@ fn large_numbers() {
     );
 }
 
+// Splits at the start, inside, at the end and past it.
 fn splits() {
     split(
         b"0:4+16 of 3 words split at 0             | ",
@@ -123,6 +129,7 @@ fn splits() {
     );
 }
 
+// Spans shortened and shifted, inside and past the end.
 fn cuts() {
     cut(
         b"0:4+16 of 3 words shortened to 6         | ",
@@ -144,10 +151,12 @@ fn cuts() {
     );
 }
 
+// The span of `len` bits from a head of a word on. The order is Lsb0; no limit depends on it.
 fn at(word: usize, head: usize, len: usize) -> Span {
     Span::new(Order::Lsb0, word, head, len)
 }
 
+// Prints the line on whether a span lies in so many words.
 fn check(name: &[u8], lent: usize, word: usize, head: usize, len: usize) {
     let span = at(word, head, len);
     show::text(name);
@@ -157,6 +166,7 @@ fn check(name: &[u8], lent: usize, word: usize, head: usize, len: usize) {
     show::end();
 }
 
+// Prints the line on the two halves of a span.
 fn split(name: &[u8], lent: usize, word: usize, head: usize, len: usize, place: usize) {
     let span = at(word, head, len);
     show::text(name);
@@ -166,6 +176,7 @@ fn split(name: &[u8], lent: usize, word: usize, head: usize, len: usize, place: 
     show::end();
 }
 
+// Prints two lines: the first `place` bits of a span, and the bits after them.
 fn cut(
     shortened: &[u8],
     shifted: &[u8],

@@ -5,6 +5,7 @@ mod numbers;
 mod positions;
 mod rows;
 
+// Prints the tables one after another.
 fn main() {
     positions::run();
     fields::run();

@@ -2,6 +2,7 @@
 use rules::Number;
 use rules::Sign;
 
+// Prints four tables: lengths of fields, values to store, bits that are loaded, and numbers as the machine has them.
 pub fn run() {
     show::text(b"fields                                   | answer\n");
     fields();
@@ -18,6 +19,7 @@ pub fn run() {
     machine_numbers();
 }
 
+// Lengths at K, above it and 0, and K that is none of 8, 16, 32 and 64.
 fn fields() {
     field(b"K = 8, length 8                          | ", 8, 8);
     field(b"K = 8, length 9                          | ", 8, 9);
@@ -32,6 +34,7 @@ fn fields() {
     );
 }
 
+// Unsigned values at the limits of K bits and of the field.
 fn unsigned_values() {
     value(
         b"255 unsigned, K = 8, 8 bits              | ",
@@ -63,6 +66,7 @@ fn unsigned_values() {
     );
 }
 
+// Signed values at the limits of K bits and of the field. A strict store takes magnitudes below 128 in 8 bits, so not -128.
 fn signed_values() {
     value(
         b"127 signed, K = 8, 8 bits                | ",
@@ -108,6 +112,7 @@ fn signed_values() {
     );
 }
 
+// Values at the limits of 64 bits.
 fn large_values() {
     value(
         b"2^64 - 1 unsigned, K = 64, 64 bits       | ",
@@ -146,6 +151,7 @@ fn large_values() {
     );
 }
 
+// Bits whose highest is set or not, read without a sign and with one.
 fn loaded_bits() {
     loaded(b"CB, 8 bits                               | ", 0xCB, 8, 8);
     loaded(b"64, 8 bits                               | ", 0x64, 8, 8);
@@ -160,6 +166,7 @@ fn loaded_bits() {
     );
 }
 
+// Numbers at the limits of i64.
 fn machine_numbers() {
     machine(
         b"2^63 - 1                                 | ",
@@ -179,12 +186,14 @@ fn machine_numbers() {
     );
 }
 
+// Prints the line on whether a number of k bits may lie in a field of `len` bits.
 fn field(name: &[u8], k: usize, len: usize) {
     show::text(name);
     show::verdict(refusals::check_field(k, len));
     show::end();
 }
 
+// Prints the line on a value: the bits that a store writes, and those that a strict store writes.
 fn value(name: &[u8], k: usize, len: usize, sign: Sign, value: Number) {
     show::text(name);
     show::low_bits(wordless::low_bits(value, k, len, sign));
@@ -193,6 +202,7 @@ fn value(name: &[u8], k: usize, len: usize, sign: Sign, value: Number) {
     show::end();
 }
 
+// Prints the line on loaded bits: the number that they are without a sign, and with one.
 fn loaded(name: &[u8], bits: u64, k: usize, len: usize) {
     show::text(name);
     show::loaded(wordless::read(bits, k, len, Sign::Unsigned));
@@ -201,6 +211,7 @@ fn loaded(name: &[u8], bits: u64, k: usize, len: usize) {
     show::end();
 }
 
+// Prints the line on a number as an i64.
 fn machine(name: &[u8], value: Number) {
     show::text(name);
     show::machine(wordless::to_i64(value));

@@ -4,6 +4,7 @@ use rules::Index;
 use rules::Order;
 use rules::Width;
 
+// Prints the table: a line for each request, a column for each order.
 pub fn run() {
     show::text(b"positions, selectors and masks           | Lsb0 | Msb0\n");
     positions();
@@ -14,6 +15,7 @@ pub fn run() {
     show::end();
 }
 
+// Positions of the first index of a word, of the last, and of those past it, which are refused.
 fn positions() {
     position(b"position of index 0, W = 8               | ", Width::W8, 0);
     position(b"position of index 7, W = 8               | ", Width::W8, 7);
@@ -40,6 +42,7 @@ fn positions() {
     );
 }
 
+// Selectors of an index in a byte, of the first index of a word of 64 bits, and of the one past its last, which is refused.
 fn selectors() {
     selector(b"selector of index 2, W = 8               | ", Width::W8, 2);
     selector(
@@ -54,6 +57,7 @@ fn selectors() {
     );
 }
 
+// Masks of some bits, all, none and the last of a byte.
 fn masks_of_bytes() {
     mask(
         b"mask 2 up to 5, W = 8                    | ",
@@ -81,6 +85,7 @@ fn masks_of_bytes() {
     );
 }
 
+// Masks of a byte that are refused: by where they begin, by where they end, or since they end before they begin.
 fn masks_refused() {
     mask(
         b"mask 8 up to 8, W = 8                    | ",
@@ -108,6 +113,7 @@ fn masks_refused() {
     );
 }
 
+// Masks of all bits and of the last of a word of 64 bits, and one from past its end, which is refused.
 fn masks_of_words() {
     mask(
         b"mask 0 up to 64, W = 64                  | ",
@@ -129,6 +135,7 @@ fn masks_of_words() {
     );
 }
 
+// Prints the line on the position of an index.
 fn position(name: &[u8], width: Width, index: usize) {
     show::text(name);
     show::position(wordless::position(width, Order::Lsb0, Index(index)));
@@ -137,6 +144,7 @@ fn position(name: &[u8], width: Width, index: usize) {
     show::end();
 }
 
+// Prints the line on the selector of an index.
 fn selector(name: &[u8], width: Width, index: usize) {
     show::text(name);
     show::selector(wordless::selector(width, Order::Lsb0, Index(index)));
@@ -145,6 +153,7 @@ fn selector(name: &[u8], width: Width, index: usize) {
     show::end();
 }
 
+// Prints the line on the mask of the indexes from `from` up to but without `upto`.
 fn mask(name: &[u8], width: Width, from: usize, upto: usize) {
     show::text(name);
     show::mask(wordless::mask(width, Order::Lsb0, Index(from), End(upto)));

@@ -3,6 +3,7 @@ use rules::Operation;
 use rules::Order;
 use rules::Span;
 
+// Prints three tables: calls on rows, the four searches, and rows of as many words as may be lent and of one more.
 pub fn run() {
     show::text(b"rows                                     | answer\n");
     copies();
@@ -36,10 +37,12 @@ pub fn run() {
     long_rows();
 }
 
+// The span of `len` bits from a head of the first word on.
 fn at(order: Order, head: usize, len: usize) -> Span {
     Span::new(order, 0, head, len)
 }
 
+// Prints a line each on a copy inside B4 whose parts overlap, a copy between two buffers, and a swap.
 fn copies() {
     let mut row = [0xB4u8];
     within8::copy_within(&mut row, at(Order::Lsb0, 0, 8), 0, 5, 2);
@@ -74,6 +77,7 @@ fn copies() {
     show::end();
 }
 
+// Prints the line on B4 joined with four ones. The right side is shorter, and counts as 0 past its end.
 fn boolean(name: &[u8], operation: Operation) {
     let mut left = [0xB4u8];
     let right = [0x0Fu8];
@@ -89,6 +93,7 @@ fn boolean(name: &[u8], operation: Operation) {
     show::end();
 }
 
+// Prints a line each on two spans whose bits differ, whose lengths differ, and whose orders differ, which is refused.
 fn comparisons() {
     let row = [0xB4u8, 0xB4];
     show::text(b"bits 0 to 3 and 4 to 7 of B4             | ");
@@ -102,6 +107,7 @@ fn comparisons() {
     show::end();
 }
 
+// Prints the rest of a line: the first one, the last one, the first zero and the last zero of a byte.
 fn searches(byte: u8, span: Span) {
     let row = [byte];
     show::found(search8::first_one(&row, span));
@@ -114,6 +120,7 @@ fn searches(byte: u8, span: Span) {
     show::end();
 }
 
+// Prints a line each on a search in as many words as may be lent, and in one more, which is refused.
 fn long_rows() {
     let most = [0u8; 65536];
     let more = [0u8; 65537];
@@ -129,11 +136,13 @@ fn long_rows() {
     show::end();
 }
 
+// Prints the answer in as many words of 64 bits as may be lent.
 fn most_wide() {
     let most = [0u64; 65536];
     show::found(search64::first_zero(&most, at(Order::Lsb0, 0, 8)));
 }
 
+// Prints the answer in one word of 64 bits more.
 fn more_wide() {
     let more = [0u64; 65537];
     show::found(search64::first_zero(&more, at(Order::Lsb0, 0, 8)));

@@ -1,7 +1,7 @@
-// Text, numbers and answers on standard output, for the programs that print them.
+// Text, numbers and answers on standard output, for the programs that print them. Each answer is printed as its value, or as "refused" and
+// the number of the refusal.
 use libc::STDOUT_FILENO;
 use requests::Reply;
-use rules::BitAnswer;
 use rules::EqualAnswer;
 use rules::LowBitsAnswer;
 use rules::MachineAnswer;
@@ -18,36 +18,43 @@ use rules::SplitAnswer;
 use rules::Verdict;
 use rules::WriteAnswer;
 
+// Prints bytes as they are.
 pub fn text(bytes: &[u8]) {
     io::write_all(STDOUT_FILENO, bytes);
 }
 
+// Prints a number in decimal.
 pub fn decimal(n: u64) {
     io::print_decimal(STDOUT_FILENO, n);
 }
 
+// Prints a number in hexadecimal, in at least two digits.
 pub fn hex(n: u64) {
     io::print_hex(STDOUT_FILENO, n, 2);
 }
 
+// Prints a byte in hexadecimal.
 pub fn byte(b: u8) {
     hex(b as u64);
 }
 
-// Between the columns of two orders, and at the end of a row.
+// Goes on to the next column of a line.
 pub fn next() {
     text(b" | ");
 }
 
+// Ends a line.
 pub fn end() {
     text(b"\n");
 }
 
+// Prints a refusal by its number.
 pub fn refusal(no: Refusal) {
     text(b"refused ");
     decimal(no.number() as u64);
 }
 
+// Prints whether a request is accepted.
 pub fn verdict(v: Verdict) {
     match v {
         Verdict::Fine => text(b"accepted"),
@@ -55,6 +62,7 @@ pub fn verdict(v: Verdict) {
     }
 }
 
+// Prints a position in a word.
 pub fn position(a: PositionAnswer) {
     match a {
         PositionAnswer::Is(p) => decimal(p.0 as u64),
@@ -62,6 +70,7 @@ pub fn position(a: PositionAnswer) {
     }
 }
 
+// Prints a selector in hexadecimal.
 pub fn selector(a: SelectorAnswer) {
     match a {
         SelectorAnswer::Is(s) => hex(s.0),
@@ -69,6 +78,7 @@ pub fn selector(a: SelectorAnswer) {
     }
 }
 
+// Prints a mask in hexadecimal.
 pub fn mask(a: MaskAnswer) {
     match a {
         MaskAnswer::Is(m) => hex(m.0),
@@ -76,7 +86,7 @@ pub fn mask(a: MaskAnswer) {
     }
 }
 
-// A whole number: what stands below 0 is printed with a minus sign.
+// Prints a whole number, one below 0 with a minus sign. The lowest, -2^64, is spelled out: its digits are those of no u64.
 pub fn number(n: Number) {
     match n {
         Number::Up(m) => decimal(m),
@@ -91,6 +101,7 @@ pub fn number(n: Number) {
     }
 }
 
+// Prints a loaded number in decimal.
 pub fn loaded(a: NumberAnswer) {
     match a {
         NumberAnswer::Is(n) => number(n),
@@ -98,6 +109,7 @@ pub fn loaded(a: NumberAnswer) {
     }
 }
 
+// Prints the bits that a store writes, in hexadecimal.
 pub fn low_bits(a: LowBitsAnswer) {
     match a {
         LowBitsAnswer::Is(u) => hex(u),
@@ -105,6 +117,7 @@ pub fn low_bits(a: LowBitsAnswer) {
     }
 }
 
+// Prints a number that was taken to the machine's i64.
 pub fn machine(a: MachineAnswer) {
     match a {
         MachineAnswer::Is(z) => number(wordless::from_i64(z)),
@@ -112,7 +125,7 @@ pub fn machine(a: MachineAnswer) {
     }
 }
 
-// A span as word:head+length.
+// Prints a span as word:head+length.
 pub fn span(s: Span) {
     decimal(s.word as u64);
     text(b":");
@@ -121,6 +134,7 @@ pub fn span(s: Span) {
     decimal(s.len as u64);
 }
 
+// Prints a span that was shortened or shifted.
 pub fn one_span(a: SpanAnswer) {
     match a {
         SpanAnswer::Is(s) => span(s),
@@ -128,6 +142,7 @@ pub fn one_span(a: SpanAnswer) {
     }
 }
 
+// Prints the two spans of a split.
 pub fn two_spans(a: SplitAnswer) {
     match a {
         SplitAnswer::Parts(halves) => {
@@ -141,18 +156,12 @@ pub fn two_spans(a: SplitAnswer) {
     }
 }
 
+// Prints a bit as 0 or 1.
 pub fn bit(b: bool) {
     if b { text(b"1") } else { text(b"0") }
 }
 
-pub fn read(a: BitAnswer) {
-    match a {
-        BitAnswer::Is(b) => bit(b),
-        BitAnswer::Refused(no) => refusal(no),
-    }
-}
-
-// A loaded number in hexadecimal.
+// Prints a loaded number in hexadecimal, one below 0 in decimal.
 pub fn loaded_hex(a: NumberAnswer) {
     match a {
         NumberAnswer::Is(n) => match n {
@@ -163,6 +172,7 @@ pub fn loaded_hex(a: NumberAnswer) {
     }
 }
 
+// Prints that a write is done.
 pub fn written(a: WriteAnswer) {
     match a {
         WriteAnswer::Done => text(b"done"),
@@ -170,6 +180,7 @@ pub fn written(a: WriteAnswer) {
     }
 }
 
+// Prints whether two rows are equal.
 pub fn compared(a: EqualAnswer) {
     match a {
         EqualAnswer::Yes => text(b"equal"),
@@ -178,6 +189,7 @@ pub fn compared(a: EqualAnswer) {
     }
 }
 
+// Prints the index that a search found, or that there is none.
 pub fn found(a: SearchAnswer) {
     match a {
         SearchAnswer::At(i) => decimal(i as u64),
@@ -186,7 +198,7 @@ pub fn found(a: SearchAnswer) {
     }
 }
 
-// The reply to a request.
+// Prints the reply to a request, as the answer of the single call is printed.
 pub fn reply(r: Reply) {
     match r {
         Reply::Refused(no) => refusal(no),

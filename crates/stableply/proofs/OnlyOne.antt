@@ -2,10 +2,10 @@
 use mathlib.Core.Path.{_≡_}
 use denote.Ref.{now}
 use Rattle.border.proofs.OneOutcome.{told-only, rest-only}
-use Rattle.stableply.proofs.wordless.stableply_position.Reads as stableply-position
-use Rattle.stableply.proofs.wordless.stableply_selector.Reads as stableply-selector
-use Rattle.stableply.proofs.wordless.stableply_mask.Reads as stableply-mask
-use Rattle.stableply.proofs.wordless.stableply_split.Reads as stableply-split
+use Rattle.stableply.proofs.unlent.stableply_position.Reads as stableply-position
+use Rattle.stableply.proofs.unlent.stableply_selector.Reads as stableply-selector
+use Rattle.stableply.proofs.unlent.stableply_mask.Reads as stableply-mask
+use Rattle.stableply.proofs.unlent.stableply_split.Reads as stableply-split
 
 stableply-position-only : (κs a r r′ x x′ : _) → stableply-position.Post κs a r x → stableply-position.Post κs a r′ x′ → (r ≡ r′) × (now (x .1 .1 .1 .0) ≡ now (x′ .1 .1 .1 .0))
 stableply-position-only κs a r r′ x x′ p q = told-only p q

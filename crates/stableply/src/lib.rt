@@ -6,4 +6,4 @@ pub mod rows64;
 pub mod rows8;
 pub mod searches64;
 pub mod searches8;
-pub mod wordless;
+pub mod unlent;

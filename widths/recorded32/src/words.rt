@@ -1,9 +1,10 @@
 // Lent words of 32 bits: set as a record has them before the call, and held to what it has after.
+use records::numbers::MOST_HELD;
 use records::numbers::word32_at;
 use records::seen::Spot;
 use word32::Word;
 
-// Sets the words to those at a place of the record.
+// Sets the words to those that begin at a place of the record.
 pub fn fill(words: &mut [Word], record: &[u8], at: usize) {
     let lent = words.len();
     let mut i = 0;
@@ -13,7 +14,7 @@ pub fn fill(words: &mut [Word], record: &[u8], at: usize) {
     }
 }
 
-// The first word that is not the one at a place of the record.
+// Whether the words are those that begin at a place of the record, or the first that is not.
 pub fn difference(words: &[Word], record: &[u8], at: usize) -> Spot {
     let mut i = 0;
     while i < words.len() {
@@ -27,7 +28,7 @@ pub fn difference(words: &[Word], record: &[u8], at: usize) -> Spot {
     Spot::Same
 }
 
-// A word that is not the expected one.
+// The spot of a word that is not the expected one.
 fn differs(at: usize, expected: Word, given: Word) -> Spot {
     Spot::Differs {
         at,
@@ -36,9 +37,9 @@ fn differs(at: usize, expected: Word, given: Word) -> Spot {
     }
 }
 
-// The word at an index of so many lent ones that begin at a place of the record. More than 64 words have no place there and are all 0.
+// Word `index` of so many lent words that begin at a place of the record. Where more are lent than a record holds, all are 0.
 fn word_of(record: &[u8], at: usize, lent: usize, index: usize) -> Word {
-    if 64 < lent {
+    if MOST_HELD < lent {
         return 0;
     }
     word32_at(record, at, index)

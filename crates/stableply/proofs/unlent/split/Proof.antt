@@ -1,9 +1,9 @@
 -- `split`: a code that is none gives 255; else the promise is that of `Span::split`, the span named.
 use borrow.Author.Needs.{needs}
-use Rattle.stableply.proofs.wordless.split.Statement.{statement}
-use Rattle.stableply.proofs.wordless.split.Tie as tie
-use Rattle.stableply.proofs.wordless.split.Reads as reads
-use Rattle.stableply.proofs.wordless.split.Lts as lts
+use Rattle.stableply.proofs.unlent.split.Statement.{statement}
+use Rattle.stableply.proofs.unlent.split.Tie as tie
+use Rattle.stableply.proofs.unlent.split.Reads as reads
+use Rattle.stableply.proofs.unlent.split.Lts as lts
 use Rattle.rules.proofs.Span.split.Reads as split-reads
 use Rattle.stableply.proofs.codes.span_of.Reads as span-of-reads
 use Rattle.stableply.proofs.leaving.leave_rest.Reads as leave-rest-reads

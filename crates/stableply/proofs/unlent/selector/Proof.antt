@@ -1,9 +1,9 @@
 -- `selector`: a code that is none gives 255; else the promise is that of `wordless::selector`, the order named.
 use borrow.Author.Needs.{needs}
-use Rattle.stableply.proofs.wordless.selector.Statement.{statement}
-use Rattle.stableply.proofs.wordless.selector.Tie as tie
-use Rattle.stableply.proofs.wordless.selector.Reads as reads
-use Rattle.stableply.proofs.wordless.selector.Lts as lts
+use Rattle.stableply.proofs.unlent.selector.Statement.{statement}
+use Rattle.stableply.proofs.unlent.selector.Tie as tie
+use Rattle.stableply.proofs.unlent.selector.Reads as reads
+use Rattle.stableply.proofs.unlent.selector.Lts as lts
 use Rattle.stableply.proofs.codes.order_of.Reads as order-of-reads
 use Rattle.stableply.proofs.leaving.leave_selector.Reads as leave-selector-reads
 use mathlib.Core.Path.{_≡_, ap, _∙_}

@@ -1,9 +1,9 @@
 -- `mask`: a code that is none gives 255; else the promise is that of `wordless::mask`, the order named.
 use borrow.Author.Needs.{needs}
-use Rattle.stableply.proofs.wordless.mask.Statement.{statement}
-use Rattle.stableply.proofs.wordless.mask.Tie as tie
-use Rattle.stableply.proofs.wordless.mask.Reads as reads
-use Rattle.stableply.proofs.wordless.mask.Lts as lts
+use Rattle.stableply.proofs.unlent.mask.Statement.{statement}
+use Rattle.stableply.proofs.unlent.mask.Tie as tie
+use Rattle.stableply.proofs.unlent.mask.Reads as reads
+use Rattle.stableply.proofs.unlent.mask.Lts as lts
 use Rattle.stableply.proofs.codes.order_of.Reads as order-of-reads
 use Rattle.stableply.proofs.leaving.leave_mask.Reads as leave-mask-reads
 use mathlib.Core.Path.{_≡_, ap, _∙_}

@@ -1,9 +1,9 @@
 -- `position`: a code that is none gives 255; else the promise is that of `wordless::position`, the order named.
 use borrow.Author.Needs.{needs}
-use Rattle.stableply.proofs.wordless.position.Statement.{statement}
-use Rattle.stableply.proofs.wordless.position.Tie as tie
-use Rattle.stableply.proofs.wordless.position.Reads as reads
-use Rattle.stableply.proofs.wordless.position.Lts as lts
+use Rattle.stableply.proofs.unlent.position.Statement.{statement}
+use Rattle.stableply.proofs.unlent.position.Tie as tie
+use Rattle.stableply.proofs.unlent.position.Reads as reads
+use Rattle.stableply.proofs.unlent.position.Lts as lts
 use Rattle.stableply.proofs.codes.order_of.Reads as order-of-reads
 use Rattle.stableply.proofs.leaving.leave_position.Reads as leave-position-reads
 use mathlib.Core.Path.{_≡_, ap, _∙_}
