@@ -276,6 +276,7 @@ pub trait BitRow: Lent<<Self as BitRow>::Word> {
     /// assert_eq!(row, [0xD0]);
     /// # Ok::<(), stableply::Refusal>(())
     /// ```
+    #[doc(alias = "copy_within")]
     fn copy_inside(&mut self, span: Span, start: usize, count: usize, destination: usize) -> Result<(), Refusal> {
         border::copy_within(self.words_mut(), span, start, count, destination)
     }
@@ -325,6 +326,7 @@ pub trait BitRow: Lent<<Self as BitRow>::Word> {
     /// assert_eq!((other, third), ([0x11, 0x22], vec![0x02, 0xC0]));
     /// # Ok::<(), stableply::Refusal>(())
     /// ```
+    #[doc(alias = "swap")]
     fn swap_with(&mut self, span: Span, other: &mut [Self::Word], other_span: Span) -> Result<(), Refusal> {
         border::swap(self.words_mut(), span, other, other_span)
     }
