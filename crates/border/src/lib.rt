@@ -1,5 +1,5 @@
-// The border to C: which order, sign and so on a code names, and how an answer leaves as a number and behind pointers. The exported calls are made
-// of it and of the library's calls.
+// The border to C: which order, sign and so on a code names, and how an answer leaves as a number and behind pointers. The exported calls
+// are made of it and of the library's calls.
 mod codes;
 mod leaving;
 

@@ -39,7 +39,8 @@ impl Span {
         self.word * width + self.head.0
     }
 
-    // What a span over `lent` words is refused for: 1 where they are more than 65,536, 2 where its head is W or more, 3 where it is not in bounds.
+    // What a span over `lent` words is refused for: 1 where they are more than 65,536, 2 where its head is W or more, 3 where it is not in
+    // bounds.
     pub fn check(self, width: Width, lent: usize) -> Verdict
         ensures { λ r. ⌜ Judges (spanCases (bits width) lent self) r ⌝ }
     {
@@ -112,8 +113,8 @@ impl Span {
         }
     }
 
-    // Whether a span is not in bounds, for a caller that has seen that 1 and 2 do not hold. Nothing is summed before it is known to be small, so any
-    // numbers get an answer: where no word is left, there is room for no bit at head 0.
+    // Whether a span is not in bounds, for a caller that has seen that 1 and 2 do not hold. Nothing is summed before it is known to be
+    // small, so any numbers get an answer: where no word is left, there is room for no bit at head 0.
     fn is_outside(self, width: Width, lent: usize) -> bool
         requires { ⌜ (lent ≤ 65536) × (self .head .0 < bits width) ⌝ }
         ensures { λ r. ⌜ r ≡ not (inBounds (bits width) lent self) ⌝ }
