@@ -2,8 +2,6 @@
 use borrow.Author.Needs.{needs}
 use Rattle.border.proofs.codes.bit_of.Statement.{statement}
 use Rattle.border.proofs.codes.bit_of.Tie as tie
-use Rattle.border.proofs.codes.bit_of.Reads as reads
-use Rattle.border.proofs.codes.bit_of.Lts as lts
 use Rattle.border.proofs.Naming.{one-bit}
 
 returns : tie.Need-returns

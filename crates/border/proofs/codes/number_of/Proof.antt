@@ -1,8 +1,6 @@
 -- `number_of`: 0, and any other code.
 use Rattle.border.proofs.codes.number_of.Statement.{statement}
 use Rattle.border.proofs.codes.number_of.Tie as tie
-use Rattle.border.proofs.codes.number_of.Reads as reads
-use Rattle.border.proofs.codes.number_of.Lts as lts
 use Rattle.border.proofs.Naming.{below-zero}
 
 returns : tie.Need-returns

@@ -2,8 +2,6 @@
 use borrow.Author.Needs.{needs}
 use Rattle.border.proofs.codes.sign_of.Statement.{statement}
 use Rattle.border.proofs.codes.sign_of.Tie as tie
-use Rattle.border.proofs.codes.sign_of.Reads as reads
-use Rattle.border.proofs.codes.sign_of.Lts as lts
 use Rattle.border.proofs.Naming.{second-sign}
 
 returns : tie.Need-returns

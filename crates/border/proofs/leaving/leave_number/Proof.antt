@@ -2,9 +2,6 @@
 use borrow.Author.Needs.{needs}
 use Rattle.border.proofs.leaving.leave_number.Statement.{statement}
 use Rattle.border.proofs.leaving.leave_number.Tie as tie
-use Rattle.border.proofs.leaving.leave_number.Reads as reads
-use Rattle.border.proofs.leaving.leave_number.Lts as lts
-use Rattle.rules.proofs.Refusal.number.Reads as number-reads
 use Rattle.border.proofs.Naming.{leaves-up, leaves-down}
 
 enum-known-answer : tie.Need-enum-known-answer

@@ -2,9 +2,6 @@
 use borrow.Author.Needs.{needs}
 use Rattle.border.proofs.leaving.leave_rest.Statement.{statement}
 use Rattle.border.proofs.leaving.leave_rest.Tie as tie
-use Rattle.border.proofs.leaving.leave_rest.Reads as reads
-use Rattle.border.proofs.leaving.leave_rest.Lts as lts
-use Rattle.rules.proofs.Refusal.number.Reads as number-reads
 use mathlib.Core.Path.{refl}
 
 enum-known-answer : tie.Need-enum-known-answer

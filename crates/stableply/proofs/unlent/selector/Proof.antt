@@ -2,10 +2,6 @@
 use borrow.Author.Needs.{needs}
 use Rattle.stableply.proofs.unlent.selector.Statement.{statement}
 use Rattle.stableply.proofs.unlent.selector.Tie as tie
-use Rattle.stableply.proofs.unlent.selector.Reads as reads
-use Rattle.stableply.proofs.unlent.selector.Lts as lts
-use Rattle.stableply.proofs.codes.order_of.Reads as order-of-reads
-use Rattle.stableply.proofs.leaving.leave_selector.Reads as leave-selector-reads
 use mathlib.Core.Path.{_≡_, ap, _∙_}
 use borrow.Author.Tests.{lt-ltb, le-ltb}
 use Rattle.rules.specs.declared.Order.{Order}

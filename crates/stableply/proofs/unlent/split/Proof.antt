@@ -2,11 +2,6 @@
 use borrow.Author.Needs.{needs}
 use Rattle.stableply.proofs.unlent.split.Statement.{statement}
 use Rattle.stableply.proofs.unlent.split.Tie as tie
-use Rattle.stableply.proofs.unlent.split.Reads as reads
-use Rattle.stableply.proofs.unlent.split.Lts as lts
-use Rattle.rules.proofs.Span.split.Reads as split-reads
-use Rattle.stableply.proofs.codes.span_of.Reads as span-of-reads
-use Rattle.stableply.proofs.leaving.leave_rest.Reads as leave-rest-reads
 use mathlib.Core.Path.{_≡_, ap, _∙_}
 use borrow.Author.Tests.{lt-ltb, le-ltb}
 use Rattle.rules.specs.declared.Span.{Span}

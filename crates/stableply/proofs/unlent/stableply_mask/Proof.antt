@@ -2,9 +2,6 @@
 use borrow.Author.Needs.{needs}
 use Rattle.stableply.proofs.unlent.stableply_mask.Statement.{statement}
 use Rattle.stableply.proofs.unlent.stableply_mask.Tie as tie
-use Rattle.stableply.proofs.unlent.stableply_mask.Reads as reads
-use Rattle.stableply.proofs.unlent.stableply_mask.Lts as lts
-use Rattle.stableply.proofs.unlent.mask.Reads as mask-reads
 use Rattle.border.proofs.Naming.{no-width}
 use Rattle.border.proofs.Crossing.{told-stopped}
 

@@ -2,9 +2,6 @@
 use borrow.Author.Needs.{needs}
 use Rattle.stableply.proofs.unlent.stableply_position.Statement.{statement}
 use Rattle.stableply.proofs.unlent.stableply_position.Tie as tie
-use Rattle.stableply.proofs.unlent.stableply_position.Reads as reads
-use Rattle.stableply.proofs.unlent.stableply_position.Lts as lts
-use Rattle.stableply.proofs.unlent.position.Reads as position-reads
 use Rattle.border.proofs.Naming.{no-width}
 use Rattle.border.proofs.Crossing.{told-stopped}
 

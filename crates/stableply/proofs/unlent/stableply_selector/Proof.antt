@@ -2,9 +2,6 @@
 use borrow.Author.Needs.{needs}
 use Rattle.stableply.proofs.unlent.stableply_selector.Statement.{statement}
 use Rattle.stableply.proofs.unlent.stableply_selector.Tie as tie
-use Rattle.stableply.proofs.unlent.stableply_selector.Reads as reads
-use Rattle.stableply.proofs.unlent.stableply_selector.Lts as lts
-use Rattle.stableply.proofs.unlent.selector.Reads as selector-reads
 use Rattle.border.proofs.Naming.{no-width}
 use Rattle.border.proofs.Crossing.{told-stopped}
 

@@ -2,9 +2,6 @@
 use borrow.Author.Needs.{needs}
 use Rattle.stableply.proofs.unlent.stableply_split.Statement.{statement}
 use Rattle.stableply.proofs.unlent.stableply_split.Tie as tie
-use Rattle.stableply.proofs.unlent.stableply_split.Reads as reads
-use Rattle.stableply.proofs.unlent.stableply_split.Lts as lts
-use Rattle.stableply.proofs.unlent.split.Reads as split-reads
 use Rattle.border.proofs.Naming.{no-width}
 use Rattle.border.proofs.Crossing.{rest-stopped}
 
