@@ -1,21 +1,18 @@
 // From the codes of the interface to the library's types. Codes are 0 or 1, as the callers have seen before they ask.
+use rules::AND;
 use rules::Number;
+use rules::OR;
 use rules::Order;
 use rules::Sign;
 use rules::Significance;
 use rules::Span;
+use rules::XOR;
 ghost use mathlib.Core.Path.{_≡_};
 ghost use mathlib.Core.Bool.{not};
 ghost use Rattle.border.specs.Border.{orderOf, significanceOf, signOf, numberOf, bitOf, spanOf, noOperation};
 
-// The number of the operation and.
-const AND: u8 = 8;
-
-// The number of the operation or.
-const OR: u8 = 14;
-
-// The number of the operation xor.
-const XOR: u8 = 6;
+// What an exported call returns where an argument is no code of the interface.
+pub const NO_CODE: u8 = 255;
 
 // The order that a code names: 0 is Lsb0, 1 is Msb0.
 pub fn order_of(code: u8) -> Order

@@ -3,6 +3,7 @@
 mod codes;
 mod leaving;
 
+pub use codes::NO_CODE;
 pub use codes::bit_of;
 pub use codes::is_operation;
 pub use codes::number_of;

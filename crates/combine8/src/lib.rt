@@ -1,7 +1,10 @@
 // What a boolean operation does to words of 8 bits: to two of them, and to a row of whole ones. An operation is the number of its truth table: the
 // result for left bit a and right bit b is bit 2a + b of it (and 8, or 14, xor 6).
+use rules::AND;
 use rules::Index;
+use rules::OR;
 use rules::Order;
+use rules::XOR;
 use word8::ONES;
 use word8::Word;
 use word8::joined;
@@ -19,9 +22,9 @@ pub fn apply(operation: u8, a: Word, b: Word) -> Word
     ensures { λ r. ⌜ r ≡ wordwise W operation a b ⌝ }
 {
     match operation {
-        8 => a & b,
-        14 => a | b,
-        6 => a ^ b,
+        AND => a & b,
+        OR => a | b,
+        XOR => a ^ b,
         _ => table(operation, a, b),
     }
 }
@@ -33,14 +36,14 @@ pub fn plain_cases(words: &mut [Word], operation: u8, right: &[Word])
         (getD (now (right .entry)) k 0)) ⌝ }
 {
     match operation {
-        8 => {
-            plain_words(words, 8, right);
+        AND => {
+            plain_words(words, AND, right);
         }
-        14 => {
-            plain_words(words, 14, right);
+        OR => {
+            plain_words(words, OR, right);
         }
-        6 => {
-            plain_words(words, 6, right);
+        XOR => {
+            plain_words(words, XOR, right);
         }
         _ => {
             plain_words(words, operation, right);
@@ -56,14 +59,14 @@ pub fn funnel_cases(words: &mut [Word], order: Order, operation: u8, right: &[Wo
         (funneled W order (head .0) (getD (now (right .entry)) k 0) (getD (now (right .entry)) (k + 1) 0))) ⌝ }
 {
     match operation {
-        8 => {
-            funnel_words(words, order, 8, right, head);
+        AND => {
+            funnel_words(words, order, AND, right, head);
         }
-        14 => {
-            funnel_words(words, order, 14, right, head);
+        OR => {
+            funnel_words(words, order, OR, right, head);
         }
-        6 => {
-            funnel_words(words, order, 6, right, head);
+        XOR => {
+            funnel_words(words, order, XOR, right, head);
         }
         _ => {
             funnel_words(words, order, operation, right, head);

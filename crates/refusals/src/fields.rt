@@ -4,6 +4,7 @@ use crate::values::check_fit;
 use crate::values::is_integer;
 use crate::values::is_size;
 use pieces::CHUNK;
+use rules::MOST_WORDS;
 use rules::Number;
 use rules::Refusal;
 use rules::Sign;
@@ -128,7 +129,7 @@ fn check_chunk(width: Width, lent: usize, span: Span, k: usize) -> Verdict
 fn is_begun(lent: usize, word: usize, len: usize, k: usize) -> bool
     ensures { λ r. ⌜ (r ≡ true → Begun lent word len k) × (r ≡ false → Begun lent word len k → ⊥) ⌝ }
 {
-    if 65536 < lent {
+    if MOST_WORDS < lent {
         return false;
     }
     if lent <= word {

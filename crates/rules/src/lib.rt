@@ -3,6 +3,11 @@
 mod numbers;
 mod span_calls;
 
+pub use numbers::AND;
+pub use numbers::MOST_WORDS;
+pub use numbers::OR;
+pub use numbers::XOR;
+
 // How many bits a word has.
 pub enum Width {
     W8,

@@ -1,4 +1,4 @@
-// The numbers that widths, refusals and boolean operations stand for.
+// The numbers that widths, refusals and boolean operations stand for, and the most words that a call takes.
 use crate::Operation;
 use crate::Refusal;
 use crate::Width;
@@ -6,6 +6,16 @@ ghost use mathlib.Core.Path.{_≡_};
 ghost use Rattle.rules.specs.Bits.{bits};
 ghost use Rattle.rules.specs.Rows.{operation};
 ghost use Rattle.rules.specs.Refusals.{number};
+
+// How many words a call takes at most. More are refusal 1.
+pub const MOST_WORDS: usize = 65536;
+
+// The truth tables of the named operations, as numbers: the result for left bit a and right bit b is bit 2a + b.
+pub const AND: u8 = 8;
+
+pub const OR: u8 = 14;
+
+pub const XOR: u8 = 6;
 
 impl Width {
     // How many bits a word has.
@@ -48,9 +58,9 @@ impl Operation {
     {
         let named = self;
         match named {
-            Operation::And => 8,
-            Operation::Or => 14,
-            Operation::Xor => 6,
+            Operation::And => AND,
+            Operation::Or => OR,
+            Operation::Xor => XOR,
         }
     }
 }

@@ -1,6 +1,7 @@
 // Spans: made from their parts, refusals 1 to 3, split, shortening and shifting.
 use crate::Halves;
 use crate::Index;
+use crate::MOST_WORDS;
 use crate::Order;
 use crate::Refusal;
 use crate::Span;
@@ -46,7 +47,7 @@ impl Span {
     {
         let w = width.bits();
         let head = self.head.0;
-        if 65536 < lent {
+        if MOST_WORDS < lent {
             return Verdict::Refused(Refusal::TooManyWords);
         }
         if w <= head {

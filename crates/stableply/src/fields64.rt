@@ -1,4 +1,5 @@
 // The exported calls on single bits and fields of rows of words of 64 bits.
+use border::NO_CODE;
 use border::bit_of;
 use border::leave_bit;
 use border::leave_number;
@@ -29,7 +30,7 @@ pub extern "C" fn stableply64_read_bit(
         (now (out .exit)) ⌝ }
 {
     if 1 < order {
-        return 255;
+        return NO_CODE;
     }
     let span = span_of(order, word, head, length);
     leave_bit(field64::read_bit(words, span, index), out)
@@ -51,10 +52,10 @@ pub extern "C" fn stableply64_write_bit(
         (now (words .entry)) r (now (words .exit)) ⌝ }
 {
     if 1 < order {
-        return 255;
+        return NO_CODE;
     }
     if 1 < bit {
-        return 255;
+        return NO_CODE;
     }
     let span = span_of(order, word, head, length);
     let named = bit_of(bit);
@@ -80,13 +81,13 @@ pub extern "C" fn stableply64_load(
         (now (out .exit)) ⌝ }
 {
     if 1 < order {
-        return 255;
+        return NO_CODE;
     }
     if 1 < significance {
-        return 255;
+        return NO_CODE;
     }
     if 1 < sign {
-        return 255;
+        return NO_CODE;
     }
     let span = span_of(order, word, head, length);
     let weight = significance_of(significance);
@@ -113,16 +114,16 @@ pub extern "C" fn stableply64_store(
         (now (words .entry)) r (now (words .exit)) ⌝ }
 {
     if 1 < order {
-        return 255;
+        return NO_CODE;
     }
     if 1 < significance {
-        return 255;
+        return NO_CODE;
     }
     if 1 < sign {
-        return 255;
+        return NO_CODE;
     }
     if 1 < below {
-        return 255;
+        return NO_CODE;
     }
     let span = span_of(order, word, head, length);
     let weight = significance_of(significance);
@@ -150,16 +151,16 @@ pub extern "C" fn stableply64_store_strict(
         (now (words .entry)) r (now (words .exit)) ⌝ }
 {
     if 1 < order {
-        return 255;
+        return NO_CODE;
     }
     if 1 < significance {
-        return 255;
+        return NO_CODE;
     }
     if 1 < sign {
-        return 255;
+        return NO_CODE;
     }
     if 1 < below {
-        return 255;
+        return NO_CODE;
     }
     let span = span_of(order, word, head, length);
     let named = sign_of(sign);

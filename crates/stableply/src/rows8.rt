@@ -1,4 +1,5 @@
 // The exported calls on rows of words of 8 bits.
+use border::NO_CODE;
 use border::is_operation;
 use border::leave_equal;
 use border::leave_write;
@@ -26,10 +27,10 @@ pub extern "C" fn stableply8_copy_from(
         (now (words .entry)) r (now (words .exit)) ⌝ }
 {
     if 1 < order {
-        return 255;
+        return NO_CODE;
     }
     if 1 < from_order {
-        return 255;
+        return NO_CODE;
     }
     let span = span_of(order, word, head, length);
     let from = span_of(from_order, from_word, from_head, from_length);
@@ -53,7 +54,7 @@ pub extern "C" fn stableply8_copy_within(
         (now (words .entry)) r (now (words .exit)) ⌝ }
 {
     if 1 < order {
-        return 255;
+        return NO_CODE;
     }
     let span = span_of(order, word, head, length);
     leave_write(within8::copy_within(words, span, start, count, destination))
@@ -79,14 +80,14 @@ pub extern "C" fn stableply8_boolean(
         (now (words .entry)) r (now (words .exit)) ⌝ }
 {
     if 1 < order {
-        return 255;
+        return NO_CODE;
     }
     if 1 < right_order {
-        return 255;
+        return NO_CODE;
     }
     let named = is_operation(operation);
     if !named {
-        return 255;
+        return NO_CODE;
     }
     let span = span_of(order, word, head, length);
     let other = span_of(right_order, right_word, right_head, right_length);
@@ -113,10 +114,10 @@ pub extern "C" fn stableply8_swap(
         r (now (left .exit)) (now (right .exit)) ⌝ }
 {
     if 1 < order {
-        return 255;
+        return NO_CODE;
     }
     if 1 < right_order {
-        return 255;
+        return NO_CODE;
     }
     let span = span_of(order, word, head, length);
     let other = span_of(right_order, right_word, right_head, right_length);
@@ -145,10 +146,10 @@ pub extern "C" fn stableply8_equal(
         (spanOf «right_order» «right_word» «right_head» «right_length»)) (now (left .entry)))) (now (out .entry)) r (now (out .exit)) ⌝ }
 {
     if 1 < order {
-        return 255;
+        return NO_CODE;
     }
     if 1 < right_order {
-        return 255;
+        return NO_CODE;
     }
     let span = span_of(order, word, head, length);
     let other = span_of(right_order, right_word, right_head, right_length);

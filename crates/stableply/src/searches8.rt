@@ -1,4 +1,5 @@
 // The exported searches of rows of words of 8 bits.
+use border::NO_CODE;
 use border::leave_found;
 use border::span_of;
 ghost use Rattle.rules.specs.Calls.{findFirst, findLast, answer};
@@ -19,7 +20,7 @@ pub extern "C" fn stableply8_first_one(
         (now (at .entry)) r (now (found .exit)) (now (at .exit)) ⌝ }
 {
     if 1 < order {
-        return 255;
+        return NO_CODE;
     }
     let span = span_of(order, word, head, length);
     leave_found(search8::first_one(words, span), found, at)
@@ -40,7 +41,7 @@ pub extern "C" fn stableply8_last_one(
         (now (at .entry)) r (now (found .exit)) (now (at .exit)) ⌝ }
 {
     if 1 < order {
-        return 255;
+        return NO_CODE;
     }
     let span = span_of(order, word, head, length);
     leave_found(search8::last_one(words, span), found, at)
@@ -61,7 +62,7 @@ pub extern "C" fn stableply8_first_zero(
         (now (at .entry)) r (now (found .exit)) (now (at .exit)) ⌝ }
 {
     if 1 < order {
-        return 255;
+        return NO_CODE;
     }
     let span = span_of(order, word, head, length);
     leave_found(search8::first_zero(words, span), found, at)
@@ -82,7 +83,7 @@ pub extern "C" fn stableply8_last_zero(
         (now (at .entry)) r (now (found .exit)) (now (at .exit)) ⌝ }
 {
     if 1 < order {
-        return 255;
+        return NO_CODE;
     }
     let span = span_of(order, word, head, length);
     leave_found(search8::last_zero(words, span), found, at)

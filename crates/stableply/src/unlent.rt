@@ -1,4 +1,5 @@
 // The exported calls without lent words.
+use border::NO_CODE;
 use border::leave_mask;
 use border::leave_position;
 use border::leave_rest;
@@ -24,7 +25,7 @@ pub extern "C" fn stableply_position(width: u8, order: u8, index: usize, out: &m
     if width == 64 {
         return position(Width::W64, order, index, out);
     }
-    255
+    NO_CODE
 }
 
 // The selector of an index in a word of 8 or 64 bits: 2 to its position.
@@ -38,7 +39,7 @@ pub extern "C" fn stableply_selector(width: u8, order: u8, index: usize, out: &m
     if width == 64 {
         return selector(Width::W64, order, index, out);
     }
-    255
+    NO_CODE
 }
 
 // The mask of the indexes of a word of 8 or 64 bits from `from` up to but without `upto`.
@@ -58,7 +59,7 @@ pub extern "C" fn stableply_mask(
     if width == 64 {
         return mask(Width::W64, order, from, upto, out);
     }
-    255
+    NO_CODE
 }
 
 // The rest of a span of words of 8 or 64 bits after its first `place` bits. The first half is the span itself with the length `place`.
@@ -107,7 +108,7 @@ pub extern "C" fn stableply_split(
             rest_length,
         );
     }
-    255
+    NO_CODE
 }
 
 // The position at one of the two widths.
@@ -115,7 +116,7 @@ fn position(width: Width, order: u8, index: usize, out: &mut u64) -> u8
     ensures { λ r. ⌜ Told (behind (none order) (positionAnswer (bits width) (orderOf order) index)) (now (out .entry)) r (now (out .exit)) ⌝ }
 {
     if 1 < order {
-        return 255;
+        return NO_CODE;
     }
     let named = order_of(order);
     leave_position(wordless::position(width, named, Index(index)), out)
@@ -126,7 +127,7 @@ fn selector(width: Width, order: u8, index: usize, out: &mut u64) -> u8
     ensures { λ r. ⌜ Told (behind (none order) (selectorAnswer (bits width) (orderOf order) index)) (now (out .entry)) r (now (out .exit)) ⌝ }
 {
     if 1 < order {
-        return 255;
+        return NO_CODE;
     }
     let named = order_of(order);
     leave_selector(wordless::selector(width, named, Index(index)), out)
@@ -137,7 +138,7 @@ fn mask(width: Width, order: u8, from: usize, upto: usize, out: &mut u64) -> u8
     ensures { λ r. ⌜ Told (behind (none order) (maskAnswer (bits width) (orderOf order) from upto)) (now (out .entry)) r (now (out .exit)) ⌝ }
 {
     if 1 < order {
-        return 255;
+        return NO_CODE;
     }
     let named = order_of(order);
     leave_mask(wordless::mask(width, named, Index(from), End(upto)), out)
@@ -160,7 +161,7 @@ fn split(
         (now («rest_head» .entry)) (now («rest_length» .entry)) r (now («rest_word» .exit)) (now («rest_head» .exit)) (now («rest_length» .exit)) ⌝ }
 {
     if 1 < order {
-        return 255;
+        return NO_CODE;
     }
     let span = span_of(order, word, head, length);
     leave_rest(
