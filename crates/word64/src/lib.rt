@@ -1,10 +1,13 @@
 // The leaves that know a word of 64 bits. All that is done to a word by its order is done here; what is above speaks of indexes alone.
+mod shifts;
 mod zeros;
 
 use rules::Index;
 use rules::Mask;
 use rules::Order;
 use rules::Position;
+use shifts::shl;
+use shifts::shr;
 pub use zeros::flip;
 pub use zeros::last_end;
 pub use zeros::zeros_end;
@@ -56,8 +59,8 @@ pub fn down(order: Order, x: Word, k: usize) -> Word
     ensures { λ r. ⌜ r ≡ downOf W order x k ⌝ }
 {
     match order {
-        Order::Lsb0 => x >> k,
-        Order::Msb0 => x << k,
+        Order::Lsb0 => shr(x, k),
+        Order::Msb0 => shl(x, k),
     }
 }
 
@@ -67,8 +70,8 @@ pub fn up(order: Order, x: Word, k: usize) -> Word
     ensures { λ r. ⌜ r ≡ upOf W order x k ⌝ }
 {
     match order {
-        Order::Lsb0 => x << k,
-        Order::Msb0 => x >> k,
+        Order::Lsb0 => shl(x, k),
+        Order::Msb0 => shr(x, k),
     }
 }
 
@@ -79,8 +82,8 @@ pub fn joined(order: Order, head: Index, x: Word, y: Word) -> Word
 {
     let h = head.0;
     match order {
-        Order::Lsb0 => x >> h | y << 1 << (TOP - h),
-        Order::Msb0 => x << h | y >> 1 >> (TOP - h),
+        Order::Lsb0 => shr(x, h) | shl(y << 1, TOP - h),
+        Order::Msb0 => shl(x, h) | shr(y >> 1, TOP - h),
     }
 }
 
@@ -147,7 +150,7 @@ fn ones(lowest: Position, n: usize) -> Mask
     ensures { λ r. ⌜ r .0 ≡ (2 ^ n - 1) * 2 ^ lowest .0 ⌝ }
 {
     let p = lowest.0;
-    let low = ONES >> (W - n);
-    let moved = low << p;
+    let low = shr(ONES, W - n);
+    let moved = shl(low, p);
     Mask(moved as u64)
 }

@@ -1,4 +1,5 @@
 -- `word64::down` moves a word down along its indexes: to the right under Lsb0, to the left under Msb0.
+use mathlib.Core.Path.{_∙_}
 use borrow.Author.Needs.{needs}
 use Rattle.word64.specs.Width.{W}
 use Rattle.laws.proofs.words.Moves.{down-lsb0, down-msb0}
@@ -8,28 +9,20 @@ use Rattle.word64.proofs.down.Tie as tie
 enum-told : tie.Need-enum-told
 enum-told c = search needs
 
-shr-result : tie.Need-shr-result
-shr-result c = search needs
+shr-requires : tie.Need-shr-requires
+shr-requires c κs = search needs
 
 enum-told-2 : tie.Need-enum-told-2
 enum-told-2 c = search needs
 
-shl-result : tie.Need-shl-result
-shl-result c = search needs
+shl-requires : tie.Need-shl-requires
+shl-requires c κs = search needs
 
 returns : tie.Need-returns
-returns c = down-lsb0 W _ _ _ (search needs)
+returns c = c .shr .ensures ∙ down-lsb0 W _ _ _ (search needs)
 
 returns-2 : tie.Need-returns-2
-returns-2 c = down-msb0 W _ _ _ (search needs)
+returns-2 c = c .shl .ensures ∙ down-msb0 W _ _ _ (search needs)
 
 pub down-spec : {M : Type 1} → statement M
-down-spec =
-    tie.close
-    (tie.spec
-    enum-told
-    shr-result
-    enum-told-2
-    shl-result
-    returns
-    returns-2)
+down-spec = tie.close (tie.spec enum-told shr-requires enum-told-2 shl-requires returns returns-2)

@@ -9,44 +9,32 @@ use Rattle.word64.proofs.joined.Tie as tie
 enum-told : tie.Need-enum-told
 enum-told c = search needs
 
-shr-result : tie.Need-shr-result
-shr-result c = search needs
+shr-requires : tie.Need-shr-requires
+shr-requires c κs = search needs
 
-sub-result : tie.Need-sub-result
-sub-result c = search needs
+sub-shl : tie.Need-sub-shl
+sub-shl c = search needs
 
-shl-result : tie.Need-shl-result
-shl-result c = search needs
+shl-requires : tie.Need-shl-requires
+shl-requires c κs = search needs
 
 enum-told-2 : tie.Need-enum-told-2
 enum-told-2 c = search needs
 
-shl-result-2 : tie.Need-shl-result-2
-shl-result-2 c = search needs
+shl-requires-2 : tie.Need-shl-requires-2
+shl-requires-2 c κs = search needs
 
-sub-result-2 : tie.Need-sub-result-2
-sub-result-2 c = search needs
+sub-shr : tie.Need-sub-shr
+sub-shr c = search needs
 
-shr-result-2 : tie.Need-shr-result-2
-shr-result-2 c = search needs
+shr-requires-2 : tie.Need-shr-requires-2
+shr-requires-2 c κs = search needs
 
 returns : tie.Need-returns
-returns c = joined-lsb0 W _ _ _ _ _ (omega arith) (search needs)
+returns c = rw (c .before .shr .ensures, c .shl .ensures) (joined-lsb0 W _ _ _ _ _ (omega arith) (search needs))
 
 returns-2 : tie.Need-returns-2
-returns-2 c = joined-msb0 W _ _ _ _ _ (omega arith) (search needs)
+returns-2 c = rw (c .before .shl2 .ensures, c .shr2 .ensures) (joined-msb0 W _ _ _ _ _ (omega arith) (search needs))
 
 pub joined-spec : {M : Type 1} → statement M
-joined-spec =
-    tie.close
-    (tie.spec
-    enum-told
-    shr-result
-    sub-result
-    shl-result
-    enum-told-2
-    shl-result-2
-    sub-result-2
-    shr-result-2
-    returns
-    returns-2)
+joined-spec = tie.close (tie.spec enum-told shr-requires sub-shl shl-requires enum-told-2 shl-requires-2 sub-shr shr-requires-2 returns returns-2)

@@ -6,23 +6,21 @@ use Rattle.rules.proofs.bits.Masks.{ones-moved}
 use Rattle.word64.proofs.ones.Statement.{statement}
 use Rattle.word64.proofs.ones.Tie as tie
 
-sub-low : tie.Need-sub-low
-sub-low c = search needs
+sub-shr : tie.Need-sub-shr
+sub-shr c = search needs
 
-shr-low : tie.Need-shr-low
-shr-low c = search needs
+shr-requires : tie.Need-shr-requires
+shr-requires c κs = omega arith
 
-shl-moved : tie.Need-shl-moved
-shl-moved c = search needs
+shl-requires : tie.Need-shl-requires
+shl-requires c κs = omega arith
 
 returns : tie.Need-returns
-returns c = ones-moved W (c .args .lowest .0) (c .args .n) (omega arith)
+returns c = let a = c .before .before .args in rw (c .shl .ensures, c .before .shr .ensures) (ones-moved W (a .lowest .0) (a .n) (omega arith))
 
 pub ones-spec : {M : Type 1} → statement M
-ones-spec =
-    tie.close
-    (tie.spec
-    sub-low
-    shr-low
-    shl-moved
+ones-spec = tie.close (tie.spec
+    sub-shr
+    shr-requires
+    shl-requires
     returns)

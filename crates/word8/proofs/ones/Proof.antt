@@ -6,38 +6,21 @@ use Rattle.rules.proofs.bits.Masks.{ones-moved}
 use Rattle.word8.proofs.ones.Statement.{statement}
 use Rattle.word8.proofs.ones.Tie as tie
 
-sub-low : tie.Need-sub-low
-sub-low c = search needs
+sub-shr : tie.Need-sub-shr
+sub-shr c = search needs
+
+shr-requires : tie.Need-shr-requires
+shr-requires c κs = omega arith
+
+shl-requires : tie.Need-shl-requires
+shl-requires c κs = omega arith
 
 -- asked below 64 bits
-cast-low : tie.Need-cast-low
-cast-low c = search needs
-
-shr-low : tie.Need-shr-low
-shr-low c = search needs
-
--- asked below 64 bits
-cast-moved : tie.Need-cast-moved
-cast-moved c = search needs
-
-shl-moved : tie.Need-shl-moved
-shl-moved c = search needs
-
--- asked below 64 bits
-cast-t8 : tie.Need-cast-t8
-cast-t8 c = search needs
+cast-t7 : tie.Need-cast-t7
+cast-t7 c = search needs
 
 returns : tie.Need-returns
-returns c = ones-moved W (c .args .lowest .0) (c .args .n) (omega arith)
+returns c = let a = c .before .before .args in rw (c .shl .ensures, c .before .shr .ensures) (ones-moved W (a .lowest .0) (a .n) (omega arith))
 
 pub ones-spec : {M : Type 1} → statement M
-ones-spec =
-    tie.close
-    (tie.spec
-    sub-low
-    cast-low
-    shr-low
-    cast-moved
-    shl-moved
-    cast-t8
-    returns)
+ones-spec = tie.close (tie.spec sub-shr shr-requires shl-requires cast-t7 returns)

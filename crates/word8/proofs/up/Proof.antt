@@ -1,4 +1,5 @@
 -- `word8::up` moves a word up along its indexes: to the left under Lsb0, to the right under Msb0.
+use mathlib.Core.Path.{_∙_}
 use borrow.Author.Needs.{needs}
 use Rattle.word8.specs.Width.{W}
 use Rattle.laws.proofs.words.Moves.{up-lsb0, up-msb0}
@@ -8,38 +9,20 @@ use Rattle.word8.proofs.up.Tie as tie
 enum-told : tie.Need-enum-told
 enum-told c = search needs
 
--- asked below 64 bits
-cast-result : tie.Need-cast-result
-cast-result c = search needs
-
-shl-result : tie.Need-shl-result
-shl-result c = search needs
+shl-requires : tie.Need-shl-requires
+shl-requires c κs = search needs
 
 enum-told-2 : tie.Need-enum-told-2
 enum-told-2 c = search needs
 
--- asked below 64 bits
-cast-result-2 : tie.Need-cast-result-2
-cast-result-2 c = search needs
-
-shr-result : tie.Need-shr-result
-shr-result c = search needs
+shr-requires : tie.Need-shr-requires
+shr-requires c κs = search needs
 
 returns : tie.Need-returns
-returns c = up-lsb0 W _ _ _ (search needs)
+returns c = c .shl .ensures ∙ up-lsb0 W _ _ _ (search needs)
 
 returns-2 : tie.Need-returns-2
-returns-2 c = up-msb0 W _ _ _ (search needs)
+returns-2 c = c .shr .ensures ∙ up-msb0 W _ _ _ (search needs)
 
 pub up-spec : {M : Type 1} → statement M
-up-spec =
-    tie.close
-    (tie.spec
-    enum-told
-    cast-result
-    shl-result
-    enum-told-2
-    cast-result-2
-    shr-result
-    returns
-    returns-2)
+up-spec = tie.close (tie.spec enum-told shl-requires enum-told-2 shr-requires returns returns-2)

@@ -2,7 +2,7 @@
 //!
 //!     bench            measures and prints
 //!     bench quick      the same, shorter: only the longest rows
-//!     bench DOCS       measures, prints, and renews DOCS/BENCHMARKS.md and DOCS/benchmarks.svg
+//!     bench DOCS       measures, prints, and renews DOCS/BENCHMARKS.md and DOCS/benchmarks.svg, as in docs/benchmarks/neoverse-v1
 
 use std::{
     fs,

@@ -1,4 +1,4 @@
-//! The lines as tables: for the terminal, and for docs/BENCHMARKS.md.
+//! The lines as tables: for the terminal, and for the BENCHMARKS.md of a processor.
 
 use std::fmt::Write;
 
@@ -153,7 +153,7 @@ fn markdown_table(text: &mut String, table: Vec<Vec<String>>) {
     }
 }
 
-/// Everything for docs/BENCHMARKS.md: the bars first, then a table for each part. Rows and searches that have bars
+/// Everything for the BENCHMARKS.md of a processor: the bars first, then a table for each part. Rows and searches that have bars
 /// stand there in full, the others as growth.
 pub fn markdown(lines: &[Line]) -> String {
     let mut text = summary(lines);
