@@ -7,6 +7,7 @@ use rules::Order;
 use rules::Significance;
 use word64::W;
 use word64::Word;
+use word64::part;
 ghost use mathlib.Core.Path.{_≡_};
 ghost use Prim.Native.Nat.{_+_, _-_, _*_, _%_, _^_, _<_, _≤_};
 ghost use lib.ListN.{length};
@@ -40,7 +41,7 @@ pub fn load_middle(words: &[Word], significance: Significance, start: usize, who
     ensures { λ r. ⌜ ((o : Order) → r ≡ loadOf W o significance (now (words .entry)) (start * W) (whole * W)) ⌝ }
 {
     let end = start + whole;
-    load_whole(&words[start..end], significance)
+    load_whole(part(words, start, end), significance)
 }
 
 // The bits of a number, put in place of `whole` words from word `start` on. They are lent on as a part of their own.

@@ -17,7 +17,9 @@ use word8::Word;
 use word8::fetch;
 use word8::lead;
 use word8::least;
+use word8::part;
 use word8::put;
+use word8::read;
 ghost use mathlib.Core.Path.{_≡_};
 ghost use Prim.Native.Nat.{ℕ, _+_, _-_, _*_, _/_, _%_, _≤_, _<_};
 ghost use lib.ListN.{length, getD};
@@ -193,7 +195,7 @@ fn piece(words: &mut [Word], order: Order, d: usize, n: usize, operation: u8, v:
         (λ i. applied operation (row W order (now (words .entry)) (d + i)) (bitN v (position W order (d % W + i)))) ⌝ }
 {
     let word = d / W;
-    let x = apply(operation, words[word], v);
+    let x = apply(operation, read(words, word), v);
     put(words, order, d, n, x);
 }
 
@@ -220,9 +222,15 @@ fn whole_words(
     let h = s % W;
     if h == 0 {
         let f = b + k;
-        plain_cases(&mut words[a..e], operation, &right[b..f]);
+        plain_cases(&mut words[a..e], operation, part(right, b, f));
         return;
     }
     let f = b + k + 1;
-    funnel_cases(&mut words[a..e], order, operation, &right[b..f], Index(h));
+    funnel_cases(
+        &mut words[a..e],
+        order,
+        operation,
+        part(right, b, f),
+        Index(h),
+    );
 }

@@ -8,6 +8,8 @@ use rules::XOR;
 use word64::ONES;
 use word64::Word;
 use word64::joined;
+use word64::read;
+use word64::write;
 ghost use mathlib.Core.Path.{_≡_};
 ghost use Prim.Native.Nat.{ℕ, _+_, _/_, _%_, _≤_, _<_};
 ghost use lib.ListN.{length, getD};
@@ -80,7 +82,7 @@ pub fn rest_words(words: &mut [Word], operation: u8)
 {
     let mut i: usize = 0;
     while i < words.len() {
-        words[i] = apply(operation, words[i], 0);
+        write(words, i, apply(operation, read(words, i), 0));
         i = i + 1;
     }
 }
@@ -93,8 +95,8 @@ fn funnel_words(words: &mut [Word], order: Order, operation: u8, right: &[Word],
 {
     let mut i: usize = 0;
     while i < words.len() {
-        let v = joined(order, head, right[i], right[i + 1]);
-        words[i] = apply(operation, words[i], v);
+        let v = joined(order, head, read(right, i), read(right, i + 1));
+        write(words, i, apply(operation, read(words, i), v));
         i = i + 1;
     }
 }
@@ -107,7 +109,7 @@ fn plain_words(words: &mut [Word], operation: u8, right: &[Word])
 {
     let mut i: usize = 0;
     while i < words.len() {
-        words[i] = apply(operation, words[i], right[i]);
+        write(words, i, apply(operation, read(words, i), read(right, i)));
         i = i + 1;
     }
 }

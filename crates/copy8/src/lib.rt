@@ -12,7 +12,10 @@ use word8::Word;
 use word8::fetch;
 use word8::joined;
 use word8::lead;
+use word8::part;
 use word8::put;
+use word8::read;
+use word8::write;
 ghost use mathlib.Core.Path.{_≡_};
 ghost use Prim.Native.Nat.{ℕ, _+_, _*_, _%_, _≤_, _<_};
 ghost use lib.ListN.{length, getD};
@@ -115,11 +118,11 @@ fn whole(words: &mut [Word], order: Order, d: usize, source: &[Word], s: usize, 
     let h = s % W;
     if h == 0 {
         let f = b + k;
-        plain_words(&mut words[a..e], &source[b..f]);
+        plain_words(&mut words[a..e], part(source, b, f));
         return;
     }
     let f = b + k + 1;
-    funnel_words(&mut words[a..e], order, &source[b..f], Index(h));
+    funnel_words(&mut words[a..e], order, part(source, b, f), Index(h));
 }
 
 // Word i becomes the word that begins at index `head` of the source's word i and goes on in the next.
@@ -130,7 +133,11 @@ fn funnel_words(words: &mut [Word], order: Order, source: &[Word], head: Index)
 {
     let mut i: usize = 0;
     while i < words.len() {
-        words[i] = joined(order, head, source[i], source[i + 1]);
+        write(
+            words,
+            i,
+            joined(order, head, read(source, i), read(source, i + 1)),
+        );
         i = i + 1;
     }
 }
@@ -142,7 +149,7 @@ fn plain_words(words: &mut [Word], source: &[Word])
 {
     let mut i: usize = 0;
     while i < words.len() {
-        words[i] = source[i];
+        write(words, i, read(source, i));
         i = i + 1;
     }
 }

@@ -13,6 +13,7 @@ use word64::fetch;
 use word64::joined;
 use word64::lead;
 use word64::mask;
+use word64::read;
 use word64::under;
 ghost use mathlib.Core.Path.{_≡_};
 ghost use Prim.Native.Nat.{ℕ, _+_, _*_, _/_, _%_, _≤_, _<_};
@@ -83,7 +84,7 @@ fn differ_piece(left: &[Word], order: Order, p: usize, n: usize, right: &[Word],
     }
     let v = fetch(right, order, q, Index(p % W), n);
     let m = mask(order, Index(p % W), n);
-    let x = left[p / W] ^ v;
+    let x = read(left, p / W) ^ v;
     under(m, x)
 }
 
@@ -164,8 +165,8 @@ fn differ_joined(
     let mut v: Word = 0;
     let mut i: usize = 0;
     while i < n {
-        let x = joined(order, head, right[b + i], right[b + i + 1]);
-        v = v | (left[a + i] ^ x);
+        let x = joined(order, head, read(right, b + i), read(right, b + i + 1));
+        v = v | (read(left, a + i) ^ x);
         i = i + 1;
     }
     v
@@ -180,7 +181,7 @@ fn differ_plain(left: &[Word], a: usize, n: usize, right: &[Word], b: usize) -> 
     let mut v: Word = 0;
     let mut i: usize = 0;
     while i < n {
-        v = v | (left[a + i] ^ right[b + i]);
+        v = v | (read(left, a + i) ^ read(right, b + i));
         i = i + 1;
     }
     v

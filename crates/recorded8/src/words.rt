@@ -3,13 +3,15 @@ use records::numbers::MOST_HELD;
 use records::numbers::word8_at;
 use records::seen::Spot;
 use word8::Word;
+use word8::read;
+use word8::write;
 
 // Sets the words to those that begin at a place of the record.
 pub fn fill(words: &mut [Word], record: &[u8], at: usize) {
     let lent = words.len();
     let mut i = 0;
     while i < words.len() {
-        words[i] = word_of(record, at, lent, i);
+        write(words, i, word_of(record, at, lent, i));
         i += 1;
     }
 }
@@ -19,7 +21,7 @@ pub fn difference(words: &[Word], record: &[u8], at: usize) -> Spot {
     let mut i = 0;
     while i < words.len() {
         let expected = word_of(record, at, words.len(), i);
-        let given = words[i];
+        let given = read(words, i);
         if given != expected {
             return differs(i, expected, given);
         }

@@ -4,6 +4,7 @@ use rules::Order;
 use word64::Word;
 use word64::flip;
 use word64::mask;
+use word64::read;
 use word64::under;
 ghost use mathlib.Core.Path.{_≡_};
 ghost use Prim.Native.Nat.{_+_, _-_, _*_, _≤_};
@@ -26,7 +27,7 @@ pub fn sought_in(
 {
     let f = flip(sought);
     let m = mask(order, head, n);
-    let x = words[k] ^ f;
+    let x = read(words, k) ^ f;
     under(m, x)
 }
 
@@ -69,7 +70,7 @@ fn gather(words: &[Word], f: Word) -> Word
     let mut v: Word = 0;
     let mut i: usize = 0;
     while i < words.len() {
-        v = v | (words[i] ^ f);
+        v = v | (read(words, i) ^ f);
         i = i + 1;
     }
     v

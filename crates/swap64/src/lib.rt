@@ -12,6 +12,8 @@ use word64::Word;
 use word64::lead;
 use word64::least;
 use word64::put;
+use word64::read;
+use word64::write;
 ghost use mathlib.Core.Path.{_≡_};
 ghost use Prim.Native.Nat.{ℕ, _+_, _*_, _%_, _≤_, _<_};
 ghost use lib.ListN.{length, getD};
@@ -89,8 +91,8 @@ fn piece(left: &mut [Word], order: Order, d: usize, right: &mut [Word], s: usize
     }
     let a = d / W;
     let b = s / W;
-    let x = left[a];
-    let y = right[b];
+    let x = read(left, a);
+    let y = read(right, b);
     put(left, order, d, n, y);
     put(right, order, s, n, x);
 }
@@ -120,9 +122,9 @@ fn swap_words(left: &mut [Word], right: &mut [Word])
 {
     let mut i: usize = 0;
     while i < left.len() {
-        let x = left[i];
-        left[i] = right[i];
-        right[i] = x;
+        let x = read(left, i);
+        write(left, i, read(right, i));
+        write(right, i, x);
         i = i + 1;
     }
 }

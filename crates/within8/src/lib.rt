@@ -13,6 +13,8 @@ use word8::fetch;
 use word8::joined;
 use word8::lead;
 use word8::put;
+use word8::read;
+use word8::write;
 ghost use mathlib.Core.Path.{_≡_};
 ghost use mathlib.Core.Logic.{_⊎_};
 ghost use Prim.Native.Nat.{_+_, _*_, _%_, _≤_, _<_};
@@ -135,7 +137,7 @@ fn whole_up(words: &mut [Word], order: Order, from: usize, to: usize, k: usize)
 }
 
 // k words from word b on, the last one first, each from the word before it and itself. The loop speaks of word b alone and counts last, so
-// that the compiler sees which words overlap.
+// that the compiler sees which words overlap; for the same reason it has its words by index and not by `read` and `write`.
 fn joined_next(words: &mut [Word], order: Order, head: Index, b: usize, k: usize)
     requires { ⌜ (1 ≤ head .0) × (head .0 < W) × (b + 1 + k ≤ length (now words)) × (length (now words) ≤ 65536) ⌝ }
     ensures { λ _. ⌜ now (words .exit) ≡ moved W order (now (words .entry)) (b * W + head .0) ((b + 1) * W) (k * W) ⌝ }
@@ -157,7 +159,8 @@ fn joined_down(words: &mut [Word], order: Order, head: Index, b: usize, a: usize
     let mut i: usize = k;
     while 0 < i {
         i = i - 1;
-        words[a + i] = joined(order, head, words[b + i], words[b + i + 1]);
+        let x = joined(order, head, read(words, b + i), read(words, b + i + 1));
+        write(words, a + i, x);
     }
 }
 
@@ -169,7 +172,8 @@ fn plain_down(words: &mut [Word], b: usize, a: usize, k: usize)
     let mut i: usize = k;
     while 0 < i {
         i = i - 1;
-        words[a + i] = words[b + i];
+        let x = read(words, b + i);
+        write(words, a + i, x);
     }
 }
 
@@ -181,7 +185,8 @@ fn joined_up(words: &mut [Word], order: Order, head: Index, b: usize, a: usize, 
 {
     let mut i: usize = 0;
     while i < k {
-        words[a + i] = joined(order, head, words[b + i], words[b + i + 1]);
+        let x = joined(order, head, read(words, b + i), read(words, b + i + 1));
+        write(words, a + i, x);
         i = i + 1;
     }
 }
@@ -193,7 +198,8 @@ fn plain_up(words: &mut [Word], b: usize, a: usize, k: usize)
 {
     let mut i: usize = 0;
     while i < k {
-        words[a + i] = words[b + i];
+        let x = read(words, b + i);
+        write(words, a + i, x);
         i = i + 1;
     }
 }

@@ -1,5 +1,6 @@
 // The leaves that know a word of 64 bits. All that is done to a word by its order is done here; what is above speaks of indexes alone.
 mod shifts;
+mod slices;
 mod zeros;
 
 use rules::Index;
@@ -8,6 +9,9 @@ use rules::Order;
 use rules::Position;
 use shifts::shl;
 use shifts::shr;
+pub use slices::part;
+pub use slices::read;
+pub use slices::write;
 pub use zeros::flip;
 pub use zeros::last_end;
 pub use zeros::zeros_end;
@@ -120,17 +124,17 @@ pub fn fetch(source: &[Word], order: Order, s: usize, head: Index, n: usize) -> 
 {
     let h = head.0;
     if s < h {
-        return up(order, source[0], h - s);
+        return up(order, read(source, 0), h - s);
     }
     let b = (s - h) / W;
     let g = (s - h) % W;
     if g == 0 {
-        return source[b];
+        return read(source, b);
     }
     if g + h + n <= W {
-        return down(order, source[b], g);
+        return down(order, read(source, b), g);
     }
-    joined(order, Index(g), source[b], source[b + 1])
+    joined(order, Index(g), read(source, b), read(source, b + 1))
 }
 
 // n bits within one word of a row, from place d on, become those that v has at the same indexes.
@@ -140,8 +144,8 @@ pub fn put(words: &mut [Word], order: Order, d: usize, n: usize, v: Word)
 {
     let word = d / W;
     let m = mask(order, Index(d % W), n);
-    let x = select(m, words[word], v);
-    words[word] = x;
+    let x = select(m, read(words, word), v);
+    write(words, word, x);
 }
 
 // The mask of the n positions from `lowest` up. There is at least one.

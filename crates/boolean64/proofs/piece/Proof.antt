@@ -12,12 +12,8 @@ use Rattle.laws.proofs.words.Combine.{piece-combined}
 use Rattle.boolean64.proofs.piece.Statement.{statement}
 use Rattle.boolean64.proofs.piece.Tie as tie
 
--- asked above 8 bits
-mul-apply : tie.Need-mul-apply
-mul-apply c = search needs
-
-slice-read-apply : tie.Need-slice-read-apply
-slice-read-apply c = search needs
+read-requires : tie.Need-read-requires
+read-requires c κs = search needs
 
 apply-requires : tie.Need-apply-requires
 apply-requires c κs = search needs
@@ -32,16 +28,16 @@ returns : tie.Need-returns
 returns c =
     let at-put = c .before .before in
     let at-apply = at-put .before .before in
-    let a = at-apply .before .before .before .args in
+    let at-read = at-apply .before in
+    let a = at-read .before .before .before .args in
     piece-combined W (lit< tt) (a .order) (now (a .words)) (a .d) (a .operation) (λ i. bitN (a .v) (position W (a .order) (a .d % W + i))) (a .n) (a .v) (at-apply .apply .result) (omega arith)
-    (at-apply .apply .ensures) (λ i l. refl) (at-put .put .ensures)
+    (rw (at-read .read .ensures) at (at-apply .apply .ensures)) (λ i l. refl) (at-put .put .ensures)
 
 pub piece-spec : {M : Type 1} → statement M
 piece-spec =
     tie.close
     (tie.spec
-    mul-apply
-    slice-read-apply
+    read-requires
     apply-requires
     put-requires
     same-length

@@ -40,18 +40,8 @@ part-plain-cases-start c = search needs
 part-plain-cases-end : tie.Need-part-plain-cases-end
 part-plain-cases-end c = search needs
 
--- asked above 8 bits
-mul-plain-cases-2 : tie.Need-mul-plain-cases-2
-mul-plain-cases-2 c = search needs
-
-sub-plain-cases-2 : tie.Need-sub-plain-cases-2
-sub-plain-cases-2 c = search needs
-
-part-plain-cases-start-2 : tie.Need-part-plain-cases-start-2
-part-plain-cases-start-2 c = search needs
-
-part-plain-cases-end-2 : tie.Need-part-plain-cases-end-2
-part-plain-cases-end-2 c = search needs
+part-requires : tie.Need-part-requires
+part-requires c κs = search needs
 
 plain-cases-requires : tie.Need-plain-cases-requires
 plain-cases-requires c κs = search needs
@@ -62,7 +52,8 @@ same-length c = search needs
 returns-2 : tie.Need-returns-2
 returns-2 c =
     let call = c .before .before in
-    let known = call .before .before .before .before .before in
+    let lent = call .before in
+    let known = lent .before .before .before .before in
     let a = known .before .before .args in
     let i = a .d / W in
     let b = a .s / W in
@@ -70,7 +61,7 @@ returns-2 c =
     words-combined W (lit< tt) (a .order) (now (a .words)) (a .d) (a .operation) (λ j. row W (a .order) (now (a .right)) (a .s + j)) (call .plain-cases .last .0) i (i + a .k - i) (a .k) (omega arith) (omega (arith, z)) (omega arith)
     (λ k. known .before .slice-known .given k .fits) (call .plain-cases .kept .0)
     (λ j. getD (take (b + a .k - b) (drop b (now (a .right)))) j 0)
-    (λ j l. call .plain-cases .ensures j (omega (arith, l, mid-length (now (a .words)) i (i + a .k - i) (a .k) (omega arith) (omega arith))))
+    (λ j l. rw (lent .part .ensures .0) at (call .plain-cases .ensures j (omega (arith, l, mid-length (now (a .words)) i (i + a .k - i) (a .k) (omega arith) (omega arith)))))
     (λ j l. right-word W (a .order) (now (a .right)) (a .s) j (part-plain W (a .order) (now (a .right)) b (a .s) (λ k. known .shared-slice-known .given k .fits) (omega arith) (b + a .k - b) j (omega arith)))
 
 add-f-2 : tie.Need-add-f-2
@@ -92,18 +83,8 @@ part-funnel-cases-start c = search needs
 part-funnel-cases-end : tie.Need-part-funnel-cases-end
 part-funnel-cases-end c = search needs
 
--- asked above 8 bits
-mul-funnel-cases-2 : tie.Need-mul-funnel-cases-2
-mul-funnel-cases-2 c = search needs
-
-sub-funnel-cases-2 : tie.Need-sub-funnel-cases-2
-sub-funnel-cases-2 c = search needs
-
-part-funnel-cases-start-2 : tie.Need-part-funnel-cases-start-2
-part-funnel-cases-start-2 c = search needs
-
-part-funnel-cases-end-2 : tie.Need-part-funnel-cases-end-2
-part-funnel-cases-end-2 c = search needs
+part-requires-2 : tie.Need-part-requires-2
+part-requires-2 c κs = search needs
 
 funnel-cases-requires : tie.Need-funnel-cases-requires
 funnel-cases-requires c κs = search needs
@@ -114,7 +95,8 @@ same-length-2 c = search needs
 returns-3 : tie.Need-returns-3
 returns-3 c =
     let call = c .before .before in
-    let known = call .before .before .before .before .before in
+    let lent = call .before in
+    let known = lent .before .before .before .before in
     let a = known .before .before .args in
     let i = a .d / W in
     let b = a .s / W in
@@ -122,7 +104,7 @@ returns-3 c =
     words-combined W (lit< tt) (a .order) (now (a .words)) (a .d) (a .operation) (λ j. row W (a .order) (now (a .right)) (a .s + j)) (call .funnel-cases .last .0) i (i + a .k - i) (a .k) (omega arith) (omega (arith, z)) (omega arith)
     (λ k. known .before .slice-known .given k .fits) (call .funnel-cases .kept .0)
     (λ j. funneled W (a .order) (a .s % W) (getD (take (b + a .k + 1 - b) (drop b (now (a .right)))) j 0) (getD (take (b + a .k + 1 - b) (drop b (now (a .right)))) (j + 1) 0))
-    (λ j l. call .funnel-cases .ensures j (omega (arith, l, mid-length (now (a .words)) i (i + a .k - i) (a .k) (omega arith) (omega arith))))
+    (λ j l. rw (lent .part2 .ensures .0) at (call .funnel-cases .ensures j (omega (arith, l, mid-length (now (a .words)) i (i + a .k - i) (a .k) (omega arith) (omega arith)))))
     (λ j l. right-word W (a .order) (now (a .right)) (a .s) j (part-joined W (a .order) (now (a .right)) b (a .s) (λ k. known .shared-slice-known .given k .fits) (a .s % W) (omega arith) (omega arith) (b + a .k + 1 - b) j (omega arith)))
 
 pub whole-words-spec : {M : Type 1} → statement M
@@ -136,10 +118,7 @@ whole-words-spec =
     sub-plain-cases
     part-plain-cases-start
     part-plain-cases-end
-    mul-plain-cases-2
-    sub-plain-cases-2
-    part-plain-cases-start-2
-    part-plain-cases-end-2
+    part-requires
     plain-cases-requires
     same-length
     returns-2
@@ -149,10 +128,7 @@ whole-words-spec =
     sub-funnel-cases
     part-funnel-cases-start
     part-funnel-cases-end
-    mul-funnel-cases-2
-    sub-funnel-cases-2
-    part-funnel-cases-start-2
-    part-funnel-cases-end-2
+    part-requires-2
     funnel-cases-requires
     same-length-2
     returns-3)

@@ -2,7 +2,7 @@
 use mathlib.Core.Path.{_≡_, refl, ap₂, _∙_}
 use Prim.Native.Nat.{ℕ, _+_, _-_, _≤_, _<_}
 use native.Mathlib.Omega.{arith}
-use lib.ListN.{length, getD, length-set}
+use lib.ListN.{length, getD}
 use borrow.Author.Count.{below-none}
 use denote.Ref.{now}
 use Rattle.word8.specs.Width.{W}
@@ -22,26 +22,26 @@ abbrev μ-loop : tie.MeasureT-loop
 loop-holds : tie.Need-loop-holds Inv-loop μ-loop
 loop-holds c = (omega arith, refl, below-none _, (λ k l. refl))
 
-shared-slice-read-joined : tie.Need-shared-slice-read-joined Inv-loop μ-loop
-shared-slice-read-joined c = omega arith
+read-requires : tie.Need-read-requires Inv-loop μ-loop
+read-requires c κs = omega arith
 
-add-joined : tie.Need-add-joined Inv-loop μ-loop
-add-joined c = omega arith
+add-read : tie.Need-add-read Inv-loop μ-loop
+add-read c = omega arith
 
-shared-slice-read-joined-2 : tie.Need-shared-slice-read-joined-2 Inv-loop μ-loop
-shared-slice-read-joined-2 c = omega arith
+read-requires-2 : tie.Need-read-requires-2 Inv-loop μ-loop
+read-requires-2 c κs = omega arith
 
 joined-requires : tie.Need-joined-requires Inv-loop μ-loop
 joined-requires c κs = omega arith
 
-slice-read-apply : tie.Need-slice-read-apply Inv-loop μ-loop
-slice-read-apply c = omega arith
+read-requires-3 : tie.Need-read-requires-3 Inv-loop μ-loop
+read-requires-3 c κs = omega arith
 
 apply-requires : tie.Need-apply-requires Inv-loop μ-loop
 apply-requires c κs = omega arith
 
-slice-write-words : tie.Need-slice-write-words Inv-loop μ-loop
-slice-write-words c = omega arith
+write-requires : tie.Need-write-requires Inv-loop μ-loop
+write-requires c κs = omega arith
 
 add-i : tie.Need-add-i Inv-loop μ-loop
 add-i c = omega arith
@@ -51,14 +51,21 @@ loop-less c = omega arith
 
 loop-again : tie.Need-loop-again Inv-loop μ-loop
 loop-again c =
-    let turn = c .before .before .before .before .before .before in
+    let write = c .before .before in
+    let apply = write .before in
+    let old = apply .before in
+    let joined = old .before .before .before in
+    let next = joined .before in
+    let first = next .before in
+    let turn = first .before .before in
     let a = turn .before .before .before .args in
     let i = turn .loop .i in (
       omega arith,
-      simp length-set (turn .loop .inv .1),
-      filled-more (turn .loop .words) i (c .apply .result) (λ k. wordwise W (a .operation) (getD (now (a .words)) k 0) (funneled W (a .order) (a .head .0) (getD (now (a .right)) k 0) (getD (now (a .right)) (k + 1) 0))) (omega arith) (turn .loop .inv .2)
-          (c .apply .ensures ∙ ap₂ (wordwise W (a .operation)) (turn .loop .inv .3 i (omega arith)) (c .before .before .joined .ensures)),
-      kept-more (turn .loop .words) i (c .apply .result) (now (a .words)) (turn .loop .inv .3),
+      omega arith,
+      rw (write .write .ensures) (filled-more (turn .loop .words) i (apply .apply .result) (λ k. wordwise W (a .operation) (getD (now (a .words)) k 0) (funneled W (a .order) (a .head .0) (getD (now (a .right)) k 0) (getD (now (a .right)) (k + 1) 0))) (omega arith) (turn .loop .inv .2)
+          (apply .apply .ensures
+          ∙ ap₂ (wordwise W (a .operation)) (old .read3 .ensures ∙ turn .loop .inv .3 i (omega arith)) (rw (first .read .ensures, next .read2 .ensures) at (joined .joined .ensures)))),
+      rw (write .write .ensures) (kept-more (turn .loop .words) i (apply .apply .result) (now (a .words)) (turn .loop .inv .3)),
     )
 
 same-length : tie.Need-same-length Inv-loop μ-loop
@@ -74,13 +81,13 @@ funnel-words-spec =
     Inv-loop
     μ-loop
     loop-holds
-    shared-slice-read-joined
-    add-joined
-    shared-slice-read-joined-2
+    read-requires
+    add-read
+    read-requires-2
     joined-requires
-    slice-read-apply
+    read-requires-3
     apply-requires
-    slice-write-words
+    write-requires
     add-i
     loop-less
     loop-again

@@ -1,8 +1,8 @@
 -- `combine8::plain_words`: below i each word is the operation's, from i on it is the old one.
-use mathlib.Core.Path.{_≡_, refl, ap, _∙_}
+use mathlib.Core.Path.{_≡_, refl, ap₂, _∙_}
 use Prim.Native.Nat.{ℕ, _-_, _≤_, _<_}
 use native.Mathlib.Omega.{arith}
-use lib.ListN.{length, getD, length-set}
+use lib.ListN.{length, getD}
 use borrow.Author.Count.{below-none}
 use denote.Ref.{now}
 use Rattle.word8.specs.Width.{W}
@@ -21,17 +21,17 @@ abbrev μ-loop : tie.MeasureT-loop
 loop-holds : tie.Need-loop-holds Inv-loop μ-loop
 loop-holds c = (omega arith, refl, below-none _, (λ k l. refl))
 
-slice-read-apply : tie.Need-slice-read-apply Inv-loop μ-loop
-slice-read-apply c = omega arith
+read-requires : tie.Need-read-requires Inv-loop μ-loop
+read-requires c κs = omega arith
 
-shared-slice-read-apply : tie.Need-shared-slice-read-apply Inv-loop μ-loop
-shared-slice-read-apply c = omega arith
+read-requires-2 : tie.Need-read-requires-2 Inv-loop μ-loop
+read-requires-2 c κs = omega arith
 
 apply-requires : tie.Need-apply-requires Inv-loop μ-loop
 apply-requires c κs = omega arith
 
-slice-write-words : tie.Need-slice-write-words Inv-loop μ-loop
-slice-write-words c = omega arith
+write-requires : tie.Need-write-requires Inv-loop μ-loop
+write-requires c κs = omega arith
 
 add-i : tie.Need-add-i Inv-loop μ-loop
 add-i c = omega arith
@@ -41,14 +41,18 @@ loop-less c = omega arith
 
 loop-again : tie.Need-loop-again Inv-loop μ-loop
 loop-again c =
-    let turn = c .before .before .before .before in
+    let write = c .before .before in
+    let apply = write .before in
+    let right = apply .before in
+    let old = right .before in
+    let turn = old .before .before .before .before in
     let a = turn .before .before .before .args in
     let i = turn .loop .i in (
       omega arith,
-      simp length-set (turn .loop .inv .1),
-      filled-more (turn .loop .words) i (c .apply .result) (λ k. wordwise W (a .operation) (getD (now (a .words)) k 0) (getD (now (a .right)) k 0)) (omega arith) (turn .loop .inv .2)
-          (c .apply .ensures ∙ ap (λ (x : ℕ). wordwise W (a .operation) x (getD (now (a .right)) i 0)) (turn .loop .inv .3 i (omega arith))),
-      kept-more (turn .loop .words) i (c .apply .result) (now (a .words)) (turn .loop .inv .3),
+      omega arith,
+      rw (write .write .ensures) (filled-more (turn .loop .words) i (apply .apply .result) (λ k. wordwise W (a .operation) (getD (now (a .words)) k 0) (getD (now (a .right)) k 0)) (omega arith) (turn .loop .inv .2)
+          (apply .apply .ensures ∙ ap₂ (wordwise W (a .operation)) (old .read .ensures ∙ turn .loop .inv .3 i (omega arith)) (right .read2 .ensures))),
+      rw (write .write .ensures) (kept-more (turn .loop .words) i (apply .apply .result) (now (a .words)) (turn .loop .inv .3)),
     )
 
 same-length : tie.Need-same-length Inv-loop μ-loop
@@ -64,10 +68,10 @@ plain-words-spec =
     Inv-loop
     μ-loop
     loop-holds
-    slice-read-apply
-    shared-slice-read-apply
+    read-requires
+    read-requires-2
     apply-requires
-    slice-write-words
+    write-requires
     add-i
     loop-less
     loop-again

@@ -2,7 +2,7 @@
 use mathlib.Core.Path.{_≡_, refl}
 use Prim.Native.Nat.{ℕ, _+_, _-_, _≤_, _<_}
 use native.Mathlib.Omega.{arith}
-use lib.ListN.{length, getD, length-set}
+use lib.ListN.{length, getD}
 use borrow.Author.Count.{below-none}
 use denote.Ref.{now}
 use Rattle.word8.specs.Width.{W}
@@ -20,20 +20,20 @@ abbrev μ-loop : tie.MeasureT-loop
 loop-holds : tie.Need-loop-holds Inv-loop μ-loop
 loop-holds c = (omega arith, refl, below-none _)
 
-shared-slice-read-joined : tie.Need-shared-slice-read-joined Inv-loop μ-loop
-shared-slice-read-joined c = omega arith
+read-requires : tie.Need-read-requires Inv-loop μ-loop
+read-requires c κs = omega arith
 
-add-joined : tie.Need-add-joined Inv-loop μ-loop
-add-joined c = omega arith
+add-read : tie.Need-add-read Inv-loop μ-loop
+add-read c = omega arith
 
-shared-slice-read-joined-2 : tie.Need-shared-slice-read-joined-2 Inv-loop μ-loop
-shared-slice-read-joined-2 c = omega arith
+read-requires-2 : tie.Need-read-requires-2 Inv-loop μ-loop
+read-requires-2 c κs = omega arith
 
 joined-requires : tie.Need-joined-requires Inv-loop μ-loop
 joined-requires c κs = omega arith
 
-slice-write-words : tie.Need-slice-write-words Inv-loop μ-loop
-slice-write-words c = omega arith
+write-requires : tie.Need-write-requires Inv-loop μ-loop
+write-requires c κs = omega arith
 
 add-i : tie.Need-add-i Inv-loop μ-loop
 add-i c = omega arith
@@ -43,12 +43,16 @@ loop-less c = omega arith
 
 loop-again : tie.Need-loop-again Inv-loop μ-loop
 loop-again c =
-    let turn = c .before .before .before .before in
-    let a = turn .before .before .before .args in (
+    let write = c .before .before in
+    let joined = write .before in
+    let next = joined .before in
+    let first = next .before in
+    let l = first .before .before .before .loop in
+    let a = first .before .before .before .before .before .before .args in (
       omega arith,
-      simp length-set (turn .loop .inv .1),
-      filled-more (turn .loop .words) (turn .loop .i) (c .joined .result) (λ k. funneled W (a .order) (a .head .0) (getD (now (a .source)) k 0) (getD (now (a .source)) (k + 1) 0)) (omega arith)
-          (turn .loop .inv .2) (c .joined .ensures),
+      omega arith,
+      rw (write .write .ensures) (filled-more (l .words) (l .i) (joined .joined .result) (λ k. funneled W (a .order) (a .head .0) (getD (now (a .source)) k 0) (getD (now (a .source)) (k + 1) 0)) (omega arith)
+          (l .inv .2) (rw (first .read .ensures, next .read2 .ensures) at (joined .joined .ensures))),
     )
 
 same-length : tie.Need-same-length Inv-loop μ-loop
@@ -64,11 +68,11 @@ funnel-words-spec =
     Inv-loop
     μ-loop
     loop-holds
-    shared-slice-read-joined
-    add-joined
-    shared-slice-read-joined-2
+    read-requires
+    add-read
+    read-requires-2
     joined-requires
-    slice-write-words
+    write-requires
     add-i
     loop-less
     loop-again

@@ -2,7 +2,7 @@
 use mathlib.Core.Path.{_≡_, refl}
 use Prim.Native.Nat.{ℕ, _-_, _≤_, _<_}
 use native.Mathlib.Omega.{arith}
-use lib.ListN.{length, getD, length-set}
+use lib.ListN.{length, getD}
 use borrow.Author.Count.{below-none}
 use denote.Ref.{now}
 use Rattle.laws.proofs.rows.Filled.{filled-more}
@@ -18,11 +18,11 @@ abbrev μ-loop : tie.MeasureT-loop
 loop-holds : tie.Need-loop-holds Inv-loop μ-loop
 loop-holds c = (omega arith, refl, below-none _)
 
-shared-slice-read-words : tie.Need-shared-slice-read-words Inv-loop μ-loop
-shared-slice-read-words c = omega arith
+read-requires : tie.Need-read-requires Inv-loop μ-loop
+read-requires c κs = omega arith
 
-slice-write-words : tie.Need-slice-write-words Inv-loop μ-loop
-slice-write-words c = omega arith
+write-requires : tie.Need-write-requires Inv-loop μ-loop
+write-requires c κs = omega arith
 
 add-i : tie.Need-add-i Inv-loop μ-loop
 add-i c = omega arith
@@ -32,11 +32,13 @@ loop-less c = omega arith
 
 loop-again : tie.Need-loop-again Inv-loop μ-loop
 loop-again c =
-    let turn = c .before .before in
-    let a = turn .before .args in (
+    let write = c .before .before in
+    let read = write .before in
+    let l = read .before .before .before .loop in
+    let a = read .before .before .before .before .before .before .args in (
       omega arith,
-      simp length-set (turn .loop .inv .1),
-      filled-more (turn .loop .words) (turn .loop .i) _ (λ k. getD (now (a .source)) k 0) (omega arith) (turn .loop .inv .2) refl,
+      omega arith,
+      rw (write .write .ensures) (filled-more (l .words) (l .i) (read .read .result) (λ k. getD (now (a .source)) k 0) (omega arith) (l .inv .2) (read .read .ensures)),
     )
 
 same-length : tie.Need-same-length Inv-loop μ-loop
@@ -52,8 +54,8 @@ plain-words-spec =
     Inv-loop
     μ-loop
     loop-holds
-    shared-slice-read-words
-    slice-write-words
+    read-requires
+    write-requires
     add-i
     loop-less
     loop-again

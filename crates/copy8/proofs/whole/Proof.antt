@@ -33,14 +33,8 @@ part-plain-words-start c = search needs
 part-plain-words-end : tie.Need-part-plain-words-end
 part-plain-words-end c = search needs
 
-sub-plain-words-2 : tie.Need-sub-plain-words-2
-sub-plain-words-2 c = search needs
-
-part-plain-words-start-2 : tie.Need-part-plain-words-start-2
-part-plain-words-start-2 c = search needs
-
-part-plain-words-end-2 : tie.Need-part-plain-words-end-2
-part-plain-words-end-2 c = search needs
+part-requires : tie.Need-part-requires
+part-requires c κs = search needs
 
 plain-words-requires : tie.Need-plain-words-requires
 plain-words-requires c κs = search needs
@@ -51,14 +45,15 @@ same-length c = search needs
 returns-2 : tie.Need-returns-2
 returns-2 c =
     let call = c .before .before in
-    let known = call .before .before .before .before .before in
+    let lent = call .before in
+    let known = lent .before .before .before .before in
     let a = known .before .before .args in
     let i = a .d / W in
     let b = a .s / W in
     let z = known .before .before .pre .0 (omega arith) in
     lent-row W (lit< tt) (a .order) (now (a .words)) (call .plain-words .last .0) i (i + a .k - i) (a .k) (a .d) (omega arith) (omega (arith, z)) (omega arith) (λ k. known .before .slice-known .given k .fits)
     (call .plain-words .kept .0) (now (a .source)) (a .s)
-    (λ j l. call .plain-words .ensures j (omega (arith, l, mid-length (now (a .words)) i (i + a .k - i) (a .k) (omega arith) (omega arith)))
+    (λ j l. rw (lent .part .ensures .0) at (call .plain-words .ensures j (omega (arith, l, mid-length (now (a .words)) i (i + a .k - i) (a .k) (omega arith) (omega arith))))
     ∙ part-plain W (a .order) (now (a .source)) b (a .s) (λ k. known .shared-slice-known .given k .fits) (omega arith) (b + a .k - b) j (omega arith))
 
 add-f-2 : tie.Need-add-f-2
@@ -76,14 +71,8 @@ part-funnel-words-start c = search needs
 part-funnel-words-end : tie.Need-part-funnel-words-end
 part-funnel-words-end c = search needs
 
-sub-funnel-words-2 : tie.Need-sub-funnel-words-2
-sub-funnel-words-2 c = search needs
-
-part-funnel-words-start-2 : tie.Need-part-funnel-words-start-2
-part-funnel-words-start-2 c = search needs
-
-part-funnel-words-end-2 : tie.Need-part-funnel-words-end-2
-part-funnel-words-end-2 c = search needs
+part-requires-2 : tie.Need-part-requires-2
+part-requires-2 c κs = search needs
 
 funnel-words-requires : tie.Need-funnel-words-requires
 funnel-words-requires c κs = search needs
@@ -94,14 +83,15 @@ same-length-2 c = search needs
 returns-3 : tie.Need-returns-3
 returns-3 c =
     let call = c .before .before in
-    let known = call .before .before .before .before .before in
+    let lent = call .before in
+    let known = lent .before .before .before .before in
     let a = known .before .before .args in
     let i = a .d / W in
     let b = a .s / W in
     let z = known .before .before .pre .0 (omega arith) in
     lent-row W (lit< tt) (a .order) (now (a .words)) (call .funnel-words .last .0) i (i + a .k - i) (a .k) (a .d) (omega arith) (omega (arith, z)) (omega arith) (λ k. known .before .slice-known .given k .fits)
     (call .funnel-words .kept .0) (now (a .source)) (a .s)
-    (λ j l. call .funnel-words .ensures j (omega (arith, l, mid-length (now (a .words)) i (i + a .k - i) (a .k) (omega arith) (omega arith)))
+    (λ j l. rw (lent .part2 .ensures .0) at (call .funnel-words .ensures j (omega (arith, l, mid-length (now (a .words)) i (i + a .k - i) (a .k) (omega arith) (omega arith))))
     ∙ part-joined W (a .order) (now (a .source)) b (a .s) (λ k. known .shared-slice-known .given k .fits) (a .s % W) (omega arith) (omega arith) (b + a .k + 1 - b) j (omega arith))
 
 pub whole-spec : {M : Type 1} → statement M
@@ -114,9 +104,7 @@ whole-spec =
     sub-plain-words
     part-plain-words-start
     part-plain-words-end
-    sub-plain-words-2
-    part-plain-words-start-2
-    part-plain-words-end-2
+    part-requires
     plain-words-requires
     same-length
     returns-2
@@ -125,9 +113,7 @@ whole-spec =
     sub-funnel-words
     part-funnel-words-start
     part-funnel-words-end
-    sub-funnel-words-2
-    part-funnel-words-start-2
-    part-funnel-words-end-2
+    part-requires-2
     funnel-words-requires
     same-length-2
     returns-3)

@@ -1,5 +1,5 @@
 -- `equal64::differ_joined`: what was gathered is 0 exactly if the first i words agree.
-use mathlib.Core.Path.{_≡_, refl, subst}
+use mathlib.Core.Path.{_≡_, subst}
 use Prim.Native.Nat.{ℕ, _+_, _-_, _≤_}
 use native.Mathlib.Omega.{arith}
 use lib.ListN.{getD}
@@ -19,41 +19,29 @@ abbrev μ-loop : tie.MeasureT-loop
 loop-holds : tie.Need-loop-holds Inv-loop μ-loop
 loop-holds c = (omega arith, differs-none _ _)
 
-add-joined : tie.Need-add-joined Inv-loop μ-loop
-add-joined c = omega arith
+add-read : tie.Need-add-read Inv-loop μ-loop
+add-read c = omega arith
 
--- asked above 8 bits
-mul-joined : tie.Need-mul-joined Inv-loop μ-loop
-mul-joined c = omega arith
+read-requires : tie.Need-read-requires Inv-loop μ-loop
+read-requires c κs = omega arith
 
-shared-slice-read-joined : tie.Need-shared-slice-read-joined Inv-loop μ-loop
-shared-slice-read-joined c = omega arith
+add-read-2 : tie.Need-add-read-2 Inv-loop μ-loop
+add-read-2 c = omega arith
 
-add-joined-2 : tie.Need-add-joined-2 Inv-loop μ-loop
-add-joined-2 c = omega arith
+add-read-3 : tie.Need-add-read-3 Inv-loop μ-loop
+add-read-3 c = omega arith
 
-add-joined-3 : tie.Need-add-joined-3 Inv-loop μ-loop
-add-joined-3 c = omega arith
-
--- asked above 8 bits
-mul-joined-2 : tie.Need-mul-joined-2 Inv-loop μ-loop
-mul-joined-2 c = omega arith
-
-shared-slice-read-joined-2 : tie.Need-shared-slice-read-joined-2 Inv-loop μ-loop
-shared-slice-read-joined-2 c = omega arith
+read-requires-2 : tie.Need-read-requires-2 Inv-loop μ-loop
+read-requires-2 c κs = omega arith
 
 joined-requires : tie.Need-joined-requires Inv-loop μ-loop
 joined-requires c κs = omega arith
 
-add-v : tie.Need-add-v Inv-loop μ-loop
-add-v c = omega arith
+add-read-4 : tie.Need-add-read-4 Inv-loop μ-loop
+add-read-4 c = omega arith
 
--- asked above 8 bits
-mul-v : tie.Need-mul-v Inv-loop μ-loop
-mul-v c = omega arith
-
-shared-slice-read-v : tie.Need-shared-slice-read-v Inv-loop μ-loop
-shared-slice-read-v c = omega arith
+read-requires-3 : tie.Need-read-requires-3 Inv-loop μ-loop
+read-requires-3 c κs = omega arith
 
 add-i : tie.Need-add-i Inv-loop μ-loop
 add-i c = omega arith
@@ -63,9 +51,15 @@ loop-less c = omega arith
 
 loop-again : tie.Need-loop-again Inv-loop μ-loop
 loop-again c =
-    let turn = c .before .before .before .before .before in
-    let a = turn .before .before .before .args in
-    (omega arith, differs-more (turn .loop .v) (turn .loop .i) _ _ (λ j. getD (now (a .left)) (a .a + j) 0) (λ j. funneled W (a .order) (a .head .0) (getD (now (a .right)) (a .b + j) 0) (getD (now (a .right)) (a .b + j + 1) 0)) refl (c .before .joined .ensures) (turn .loop .inv .1))
+    let joined = c .before in
+    let next = joined .before in
+    let first = next .before in
+    let turn = first .before .before in
+    let a = turn .before .before .before .args in (
+      omega arith,
+      differs-more (turn .loop .v) (turn .loop .i) _ _ (λ j. getD (now (a .left)) (a .a + j) 0) (λ j. funneled W (a .order) (a .head .0) (getD (now (a .right)) (a .b + j) 0) (getD (now (a .right)) (a .b + j + 1) 0)) (c .read3 .ensures)
+          (rw (first .read .ensures, next .read2 .ensures) at (joined .joined .ensures)) (turn .loop .inv .1),
+    )
 
 returns : tie.Need-returns Inv-loop μ-loop
 returns c =
@@ -81,17 +75,14 @@ differ-joined-spec =
     Inv-loop
     μ-loop
     loop-holds
-    add-joined
-    mul-joined
-    shared-slice-read-joined
-    add-joined-2
-    add-joined-3
-    mul-joined-2
-    shared-slice-read-joined-2
+    add-read
+    read-requires
+    add-read-2
+    add-read-3
+    read-requires-2
     joined-requires
-    add-v
-    mul-v
-    shared-slice-read-v
+    add-read-4
+    read-requires-3
     add-i
     loop-less
     loop-again

@@ -17,25 +17,22 @@ fetch-requires c κs = search needs
 mask-requires : tie.Need-mask-requires
 mask-requires c κs = search needs
 
--- asked above 8 bits
-mul-x : tie.Need-mul-x
-mul-x c = search needs
-
-shared-slice-read-x : tie.Need-shared-slice-read-x
-shared-slice-read-x c = search needs
+read-requires : tie.Need-read-requires
+read-requires c κs = search needs
 
 under-requires : tie.Need-under-requires
 under-requires c κs = search needs
 
 returns-2 : tie.Need-returns-2
 returns-2 c =
-    let known = c .before in
-    let at-mask = known .before in
+    let at-read = c .before in
+    let at-mask = at-read .before in
     let at-fetch = at-mask .before in
-    let a = at-fetch .before .before .before .before .args in
-    rw (c .under .ensures)
+    let known = at-fetch .before .before .before in
+    let a = known .before .args in
+    rw (c .under .ensures, at-read .read .ensures)
     (piece-differs W (lit< tt) (a .order) (now (a .left)) (now (a .right)) (a .p) (a .q) (a .n) (at-fetch .fetch .result) (at-mask .mask .result .0) (omega arith)
-    (λ k. known .shared-slice-known3 .given k .fits) (search needs) (at-fetch .fetch .ensures) (at-mask .mask .ensures))
+    (λ k. known .shared-slice-known .given k .fits) (search needs) (at-fetch .fetch .ensures) (at-mask .mask .ensures))
 
 pub differ-piece-spec : {M : Type 1} → statement M
 differ-piece-spec =
@@ -44,7 +41,6 @@ differ-piece-spec =
     returns
     fetch-requires
     mask-requires
-    mul-x
-    shared-slice-read-x
+    read-requires
     under-requires
     returns-2)

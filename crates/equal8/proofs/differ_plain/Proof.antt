@@ -1,5 +1,5 @@
 -- `equal8::differ_plain`: what was gathered is 0 exactly if the first i words agree.
-use mathlib.Core.Path.{_≡_, refl, subst}
+use mathlib.Core.Path.{_≡_, subst}
 use Prim.Native.Nat.{ℕ, _+_, _-_, _≤_}
 use native.Mathlib.Omega.{arith}
 use lib.ListN.{getD}
@@ -17,17 +17,17 @@ abbrev μ-loop : tie.MeasureT-loop
 loop-holds : tie.Need-loop-holds Inv-loop μ-loop
 loop-holds c = (omega arith, differs-none _ _)
 
-add-v : tie.Need-add-v Inv-loop μ-loop
-add-v c = omega arith
+add-read : tie.Need-add-read Inv-loop μ-loop
+add-read c = omega arith
 
-shared-slice-read-v : tie.Need-shared-slice-read-v Inv-loop μ-loop
-shared-slice-read-v c = omega arith
+read-requires : tie.Need-read-requires Inv-loop μ-loop
+read-requires c κs = omega arith
 
-add-v-2 : tie.Need-add-v-2 Inv-loop μ-loop
-add-v-2 c = omega arith
+add-read-2 : tie.Need-add-read-2 Inv-loop μ-loop
+add-read-2 c = omega arith
 
-shared-slice-read-v-2 : tie.Need-shared-slice-read-v-2 Inv-loop μ-loop
-shared-slice-read-v-2 c = omega arith
+read-requires-2 : tie.Need-read-requires-2 Inv-loop μ-loop
+read-requires-2 c κs = omega arith
 
 add-i : tie.Need-add-i Inv-loop μ-loop
 add-i c = omega arith
@@ -38,13 +38,13 @@ loop-less c = omega arith
 loop-again : tie.Need-loop-again Inv-loop μ-loop
 loop-again c =
     let turn = c .before .before .before in
-    let a = turn .before .args in
-    (omega arith, differs-more (turn .loop .v) (turn .loop .i) _ _ (λ j. getD (now (a .left)) (a .a + j) 0) (λ j. getD (now (a .right)) (a .b + j) 0) refl refl (turn .loop .inv .1))
+    let a = turn .before .before .before .args in
+    (omega arith, differs-more (turn .loop .v) (turn .loop .i) _ _ (λ j. getD (now (a .left)) (a .a + j) 0) (λ j. getD (now (a .right)) (a .b + j) 0) (c .before .read .ensures) (c .read2 .ensures) (turn .loop .inv .1))
 
 returns : tie.Need-returns Inv-loop μ-loop
 returns c =
     let turn = c .before in
-    let a = turn .before .args in
+    let a = turn .before .before .before .args in
     let e : turn .loop .i ≡ a .n = omega arith in
     subst (λ (i : ℕ). Differs (turn .loop .v) i (λ j. getD (now (a .left)) (a .a + j) 0) (λ j. getD (now (a .right)) (a .b + j) 0)) e (turn .loop .inv .1)
 
@@ -55,10 +55,10 @@ differ-plain-spec =
     Inv-loop
     μ-loop
     loop-holds
-    add-v
-    shared-slice-read-v
-    add-v-2
-    shared-slice-read-v-2
+    add-read
+    read-requires
+    add-read-2
+    read-requires-2
     add-i
     loop-less
     loop-again

@@ -19,19 +19,11 @@ returns c =
       none-put W (lit< tt) (a .order) (now (a .right)) (a .s) (λ i. row W (a .order) (now (a .left)) (a .d + i)) (a .n) (c .if1 .taken) (λ k. known .slice-known2 .given k .fits),
     )
 
--- asked above 8 bits
-mul-x : tie.Need-mul-x
-mul-x c = search needs
+read-requires : tie.Need-read-requires
+read-requires c κs = search needs
 
-slice-read-x : tie.Need-slice-read-x
-slice-read-x c = search needs
-
--- asked above 8 bits
-mul-y : tie.Need-mul-y
-mul-y c = search needs
-
-slice-read-y : tie.Need-slice-read-y
-slice-read-y c = search needs
+read-requires-2 : tie.Need-read-requires-2
+read-requires-2 c κs = search needs
 
 put-requires : tie.Need-put-requires
 put-requires c κs = search needs
@@ -49,9 +41,11 @@ returns-2 : tie.Need-returns-2
 returns-2 c =
     let second = c .before .before in
     let first = second .before .before .before .before in
-    let a = first .before .before .before .before .before .before .before .args in (
-      near-put W (lit< tt) (a .order) (now (a .left)) (now (a .right)) (a .d) (a .s) (a .n) (omega arith) (omega arith) (first .put .ensures),
-      near-put W (lit< tt) (a .order) (now (a .right)) (now (a .left)) (a .s) (a .d) (a .n) (omega arith) (omega arith) (second .put2 .ensures),
+    let from-right = first .before .before in
+    let from-left = from-right .before .before in
+    let a = from-left .before .before .before .before .before .args in (
+      near-put W (lit< tt) (a .order) (now (a .left)) (now (a .right)) (a .d) (a .s) (a .n) (omega arith) (omega arith) (rw (from-right .read2 .ensures) at (first .put .ensures)),
+      near-put W (lit< tt) (a .order) (now (a .right)) (now (a .left)) (a .s) (a .d) (a .n) (omega arith) (omega arith) (rw (from-left .read .ensures) at (second .put2 .ensures)),
     )
 
 pub piece-spec : {M : Type 1} → statement M
@@ -59,10 +53,8 @@ piece-spec =
     tie.close
     (tie.spec
     returns
-    mul-x
-    slice-read-x
-    mul-y
-    slice-read-y
+    read-requires
+    read-requires-2
     put-requires
     put-requires-2
     same-length

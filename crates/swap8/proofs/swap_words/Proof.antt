@@ -1,8 +1,8 @@
 -- `swap8::swap_words`: below i either side has the other's words, from i on its own.
-use mathlib.Core.Path.{_≡_, refl}
+use mathlib.Core.Path.{_≡_, refl, _∙_}
 use Prim.Native.Nat.{ℕ, _-_, _≤_, _<_}
 use native.Mathlib.Omega.{arith}
-use lib.ListN.{length, getD, length-set}
+use lib.ListN.{length, getD}
 use borrow.Author.Count.{below-none}
 use denote.Ref.{now}
 use Rattle.laws.proofs.rows.Filled.{filled-more, kept-more}
@@ -20,17 +20,17 @@ abbrev μ-loop : tie.MeasureT-loop
 loop-holds : tie.Need-loop-holds Inv-loop μ-loop
 loop-holds c = (omega arith, refl, refl, below-none _, below-none _, (λ k l. refl), (λ k l. refl))
 
-slice-read-x : tie.Need-slice-read-x Inv-loop μ-loop
-slice-read-x c = omega arith
+read-requires : tie.Need-read-requires Inv-loop μ-loop
+read-requires c κs = omega arith
 
-slice-read-left : tie.Need-slice-read-left Inv-loop μ-loop
-slice-read-left c = omega arith
+read-requires-2 : tie.Need-read-requires-2 Inv-loop μ-loop
+read-requires-2 c κs = omega arith
 
-slice-write-left : tie.Need-slice-write-left Inv-loop μ-loop
-slice-write-left c = omega arith
+write-requires : tie.Need-write-requires Inv-loop μ-loop
+write-requires c κs = omega arith
 
-slice-write-right : tie.Need-slice-write-right Inv-loop μ-loop
-slice-write-right c = omega arith
+write-requires-2 : tie.Need-write-requires-2 Inv-loop μ-loop
+write-requires-2 c κs = omega arith
 
 add-i : tie.Need-add-i Inv-loop μ-loop
 add-i c = omega arith
@@ -40,16 +40,20 @@ loop-less c = omega arith
 
 loop-again : tie.Need-loop-again Inv-loop μ-loop
 loop-again c =
-    let turn = c .before .before .before in
-    let a = turn .before .args in
+    let to-right = c .before .before in
+    let to-left = to-right .before .before .before .before in
+    let from-right = to-left .before in
+    let from-left = from-right .before .before .before in
+    let turn = from-left .before .before .before in
+    let a = turn .before .before .before .args in
     let i = turn .loop .i in (
       omega arith,
-      simp length-set (turn .loop .inv .1),
-      simp length-set (turn .loop .inv .2),
-      filled-more (turn .loop .left) i _ (λ k. getD (now (a .right)) k 0) (omega arith) (turn .loop .inv .3) (turn .loop .inv .6 i (omega arith)),
-      filled-more (turn .loop .right) i _ (λ k. getD (now (a .left)) k 0) (omega arith) (turn .loop .inv .4) (turn .loop .inv .5 i (omega arith)),
-      kept-more (turn .loop .left) i _ (now (a .left)) (turn .loop .inv .5),
-      kept-more (turn .loop .right) i _ (now (a .right)) (turn .loop .inv .6),
+      omega arith,
+      omega arith,
+      rw (to-left .write .ensures) (filled-more (turn .loop .left) i _ (λ k. getD (now (a .right)) k 0) (omega arith) (turn .loop .inv .3) (from-right .read2 .ensures ∙ turn .loop .inv .6 i (omega arith))),
+      rw (to-right .write2 .ensures) (filled-more (turn .loop .right) i _ (λ k. getD (now (a .left)) k 0) (omega arith) (turn .loop .inv .4) (from-left .read .ensures ∙ turn .loop .inv .5 i (omega arith))),
+      rw (to-left .write .ensures) (kept-more (turn .loop .left) i _ (now (a .left)) (turn .loop .inv .5)),
+      rw (to-right .write2 .ensures) (kept-more (turn .loop .right) i _ (now (a .right)) (turn .loop .inv .6)),
     )
 
 same-length : tie.Need-same-length Inv-loop μ-loop
@@ -68,10 +72,10 @@ swap-words-spec =
     Inv-loop
     μ-loop
     loop-holds
-    slice-read-x
-    slice-read-left
-    slice-write-left
-    slice-write-right
+    read-requires
+    read-requires-2
+    write-requires
+    write-requires-2
     add-i
     loop-less
     loop-again

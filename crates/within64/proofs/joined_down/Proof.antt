@@ -2,7 +2,7 @@
 use mathlib.Core.Path.{_≡_, refl, _∙_}
 use Prim.Native.Nat.{_+_, _-_, _*_, _≤_}
 use native.Mathlib.Omega.{arith}
-use lib.ListN.{length, length-set}
+use lib.ListN.{length}
 use lib.Dec.{lit<}
 use denote.Ref.{now}
 use Rattle.word64.specs.Width.{W}
@@ -27,54 +27,46 @@ loop-holds c =
 sub-i : tie.Need-sub-i Inv-loop μ-loop
 sub-i c = omega arith
 
-add-joined : tie.Need-add-joined Inv-loop μ-loop
-add-joined c = omega arith
+add-read : tie.Need-add-read Inv-loop μ-loop
+add-read c = omega arith
 
--- asked above 8 bits
-mul-joined : tie.Need-mul-joined Inv-loop μ-loop
-mul-joined c = omega arith
+read-requires : tie.Need-read-requires Inv-loop μ-loop
+read-requires c κs = omega arith
 
-slice-read-joined : tie.Need-slice-read-joined Inv-loop μ-loop
-slice-read-joined c = omega arith
+add-read-2 : tie.Need-add-read-2 Inv-loop μ-loop
+add-read-2 c = omega arith
 
-add-joined-2 : tie.Need-add-joined-2 Inv-loop μ-loop
-add-joined-2 c = omega arith
+add-read-3 : tie.Need-add-read-3 Inv-loop μ-loop
+add-read-3 c = omega arith
 
-add-joined-3 : tie.Need-add-joined-3 Inv-loop μ-loop
-add-joined-3 c = omega arith
-
--- asked above 8 bits
-mul-joined-2 : tie.Need-mul-joined-2 Inv-loop μ-loop
-mul-joined-2 c = omega arith
-
-slice-read-joined-2 : tie.Need-slice-read-joined-2 Inv-loop μ-loop
-slice-read-joined-2 c = omega arith
+read-requires-2 : tie.Need-read-requires-2 Inv-loop μ-loop
+read-requires-2 c κs = omega arith
 
 joined-requires : tie.Need-joined-requires Inv-loop μ-loop
 joined-requires c κs = omega arith
 
-add-words : tie.Need-add-words Inv-loop μ-loop
-add-words c = omega arith
+add-write : tie.Need-add-write Inv-loop μ-loop
+add-write c = omega arith
 
--- asked above 8 bits
-mul-words : tie.Need-mul-words Inv-loop μ-loop
-mul-words c = omega arith
-
-slice-write-words : tie.Need-slice-write-words Inv-loop μ-loop
-slice-write-words c = omega arith
+write-requires : tie.Need-write-requires Inv-loop μ-loop
+write-requires c κs = omega arith
 
 loop-less : tie.Need-loop-less Inv-loop μ-loop
 loop-less c = omega arith
 
 loop-again : tie.Need-loop-again Inv-loop μ-loop
 loop-again c =
-    let turn = c .before .before .before .before in
+    let write = c .before .before in
+    let joined = write .before .before in
+    let next = joined .before in
+    let first = next .before .before in
+    let turn = first .before .before .before in
     let a = turn .before .before .args in
     let i = turn .loop .i in (
       omega arith,
-      simp length-set (turn .loop .inv .1),
-      word-down W (lit< tt) (a .order) (now (a .words)) (a .a) (a .b) (a .head .0) (a .k) (i - 1) i (omega arith) (omega arith) (omega arith) (omega arith) (omega arith) (omega arith) (turn .loop .inv .2)
-          (λ w. c .joined .ensures ∙ from-funnel W (a .order) (a .head .0) (omega arith) (turn .loop .words) (a .b + (i - 1)) w),
+      omega arith,
+      write .write .ensures ∙ word-down W (lit< tt) (a .order) (now (a .words)) (a .a) (a .b) (a .head .0) (a .k) (i - 1) i (omega arith) (omega arith) (omega arith) (omega arith) (omega arith) (omega arith) (turn .loop .inv .2)
+          (λ w. rw (first .read .ensures, next .read2 .ensures) at (joined .joined .ensures) ∙ from-funnel W (a .order) (a .head .0) (omega arith) (turn .loop .words) (a .b + (i - 1)) w),
     )
 
 same-length : tie.Need-same-length Inv-loop μ-loop
@@ -94,17 +86,14 @@ joined-down-spec =
     μ-loop
     loop-holds
     sub-i
-    add-joined
-    mul-joined
-    slice-read-joined
-    add-joined-2
-    add-joined-3
-    mul-joined-2
-    slice-read-joined-2
+    add-read
+    read-requires
+    add-read-2
+    add-read-3
+    read-requires-2
     joined-requires
-    add-words
-    mul-words
-    slice-write-words
+    add-write
+    write-requires
     loop-less
     loop-again
     same-length

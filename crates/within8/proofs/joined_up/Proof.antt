@@ -3,7 +3,7 @@ use mathlib.Core.Path.{_≡_, refl, _∙_}
 use mathlib.Core.Logic.{inl, inr, ⊎-elim}
 use Prim.Native.Nat.{_+_, _-_, _*_, _≤_}
 use native.Mathlib.Omega.{arith}
-use lib.ListN.{length, length-set}
+use lib.ListN.{length}
 use lib.Dec.{lit<}
 use denote.Ref.{now}
 use Rattle.word8.specs.Width.{W}
@@ -25,29 +25,29 @@ loop-holds c =
     let a = c .before .args in
     (omega arith, refl, moved-none W (lit< tt) (a .order) (now (a .words)) (a .b * W + a .head .0) (a .a * W) (0 * W) (omega arith) (λ j. c .slice-known .given j .fits))
 
-add-joined : tie.Need-add-joined Inv-loop μ-loop
-add-joined c = omega arith
+add-read : tie.Need-add-read Inv-loop μ-loop
+add-read c = omega arith
 
-slice-read-joined : tie.Need-slice-read-joined Inv-loop μ-loop
-slice-read-joined c = omega arith
+read-requires : tie.Need-read-requires Inv-loop μ-loop
+read-requires c κs = omega arith
 
-add-joined-2 : tie.Need-add-joined-2 Inv-loop μ-loop
-add-joined-2 c = omega arith
+add-read-2 : tie.Need-add-read-2 Inv-loop μ-loop
+add-read-2 c = omega arith
 
-add-joined-3 : tie.Need-add-joined-3 Inv-loop μ-loop
-add-joined-3 c = omega arith
+add-read-3 : tie.Need-add-read-3 Inv-loop μ-loop
+add-read-3 c = omega arith
 
-slice-read-joined-2 : tie.Need-slice-read-joined-2 Inv-loop μ-loop
-slice-read-joined-2 c = omega arith
+read-requires-2 : tie.Need-read-requires-2 Inv-loop μ-loop
+read-requires-2 c κs = omega arith
 
 joined-requires : tie.Need-joined-requires Inv-loop μ-loop
 joined-requires c κs = omega arith
 
-add-words : tie.Need-add-words Inv-loop μ-loop
-add-words c = omega arith
+add-write : tie.Need-add-write Inv-loop μ-loop
+add-write c = omega arith
 
-slice-write-words : tie.Need-slice-write-words Inv-loop μ-loop
-slice-write-words c = omega arith
+write-requires : tie.Need-write-requires Inv-loop μ-loop
+write-requires c κs = omega arith
 
 add-i : tie.Need-add-i Inv-loop μ-loop
 add-i c = omega arith
@@ -57,14 +57,18 @@ loop-less c = omega arith
 
 loop-again : tie.Need-loop-again Inv-loop μ-loop
 loop-again c =
-    let turn = c .before .before .before .before in
+    let write = c .before .before in
+    let joined = write .before .before in
+    let next = joined .before in
+    let first = next .before .before in
+    let turn = first .before .before .before in
     let start = turn .before .before in
     let a = start .args in
     let i = turn .loop .i in (
       omega arith,
-      simp length-set (turn .loop .inv .1),
-      word-up W (lit< tt) (a .order) (now (a .words)) (a .a) (a .b) (a .head .0) i (omega arith) (omega arith) (omega arith) (⊎-elim (λ l. inl (omega arith)) (λ l. inr (omega arith)) (start .pre .4)) (turn .loop .inv .2)
-          (λ w. c .joined .ensures ∙ from-funnel W (a .order) (a .head .0) (omega arith) (turn .loop .words) (a .b + i) w),
+      omega arith,
+      write .write .ensures ∙ word-up W (lit< tt) (a .order) (now (a .words)) (a .a) (a .b) (a .head .0) i (omega arith) (omega arith) (omega arith) (⊎-elim (λ l. inl (omega arith)) (λ l. inr (omega arith)) (start .pre .4)) (turn .loop .inv .2)
+          (λ w. rw (first .read .ensures, next .read2 .ensures) at (joined .joined .ensures) ∙ from-funnel W (a .order) (a .head .0) (omega arith) (turn .loop .words) (a .b + i) w),
     )
 
 same-length : tie.Need-same-length Inv-loop μ-loop
@@ -83,14 +87,14 @@ joined-up-spec =
     Inv-loop
     μ-loop
     loop-holds
-    add-joined
-    slice-read-joined
-    add-joined-2
-    add-joined-3
-    slice-read-joined-2
+    add-read
+    read-requires
+    add-read-2
+    add-read-3
+    read-requires-2
     joined-requires
-    add-words
-    slice-write-words
+    add-write
+    write-requires
     add-i
     loop-less
     loop-again

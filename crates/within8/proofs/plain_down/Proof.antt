@@ -2,7 +2,7 @@
 use mathlib.Core.Path.{_≡_, refl, _∙_}
 use Prim.Native.Nat.{_+_, _-_, _*_, _≤_}
 use native.Mathlib.Omega.{arith}
-use lib.ListN.{length, length-set}
+use lib.ListN.{length}
 use lib.Dec.{lit<}
 use denote.Ref.{now}
 use Rattle.word8.specs.Width.{W}
@@ -23,36 +23,38 @@ abbrev μ-loop : tie.MeasureT-loop
 
 loop-holds : tie.Need-loop-holds Inv-loop μ-loop
 loop-holds c =
-    let a = c .args in
+    let a = c .before .args in
     (omega arith, refl, (λ o w. moved-none W (lit< tt) o (now (a .words)) (a .b * W + 0 + a .k * W) (a .a * W + a .k * W) ((a .k - a .k) * W) (omega arith) w))
 
 sub-i : tie.Need-sub-i Inv-loop μ-loop
 sub-i c = omega arith
 
-add-words : tie.Need-add-words Inv-loop μ-loop
-add-words c = omega arith
+add-read : tie.Need-add-read Inv-loop μ-loop
+add-read c = omega arith
 
-slice-read-words : tie.Need-slice-read-words Inv-loop μ-loop
-slice-read-words c = omega arith
+read-requires : tie.Need-read-requires Inv-loop μ-loop
+read-requires c κs = omega arith
 
-add-words-2 : tie.Need-add-words-2 Inv-loop μ-loop
-add-words-2 c = omega arith
+add-write : tie.Need-add-write Inv-loop μ-loop
+add-write c = omega arith
 
-slice-write-words : tie.Need-slice-write-words Inv-loop μ-loop
-slice-write-words c = omega arith
+write-requires : tie.Need-write-requires Inv-loop μ-loop
+write-requires c κs = omega arith
 
 loop-less : tie.Need-loop-less Inv-loop μ-loop
 loop-less c = omega arith
 
 loop-again : tie.Need-loop-again Inv-loop μ-loop
 loop-again c =
-    let turn = c .before .before in
-    let a = turn .before .args in
+    let write = c .before .before in
+    let read = write .before .before in
+    let turn = read .before .before .before in
+    let a = turn .before .before .args in
     let i = turn .loop .i in (
       omega arith,
-      simp length-set (turn .loop .inv .1),
-      (λ o w. word-down W (lit< tt) o (now (a .words)) (a .a) (a .b) 0 (a .k) (i - 1) i (omega arith) (omega arith) (omega arith) (omega arith) (omega arith) (omega arith) (turn .loop .inv .2 o w)
-          (from-word W o (turn .loop .words) (a .b + (i - 1)))),
+      omega arith,
+      (λ o w. write .write .ensures ∙ word-down W (lit< tt) o (now (a .words)) (a .a) (a .b) 0 (a .k) (i - 1) i (omega arith) (omega arith) (omega arith) (omega arith) (omega arith) (omega arith) (turn .loop .inv .2 o w)
+          (λ v. read .read .ensures ∙ from-word W o (turn .loop .words) (a .b + (i - 1)) v)),
     )
 
 same-length : tie.Need-same-length Inv-loop μ-loop
@@ -61,7 +63,7 @@ same-length c = omega arith
 returns : tie.Need-returns Inv-loop μ-loop
 returns c =
     let turn = c .before in
-    let a = turn .before .args in
+    let a = turn .before .before .args in
     λ o w. turn .loop .inv .2 o w ∙ moved-at W o (now (a .words)) (omega arith) (omega arith) (omega arith)
 
 pub plain-down-spec : {M : Type 1} → statement M
@@ -72,10 +74,10 @@ plain-down-spec =
     μ-loop
     loop-holds
     sub-i
-    add-words
-    slice-read-words
-    add-words-2
-    slice-write-words
+    add-read
+    read-requires
+    add-write
+    write-requires
     loop-less
     loop-again
     same-length

@@ -15,33 +15,37 @@ use Rattle.word8.proofs.put.Tie as tie
 mask-requires : tie.Need-mask-requires
 mask-requires c κs = search needs
 
-slice-read-select : tie.Need-slice-read-select
-slice-read-select c = search needs
+read-requires : tie.Need-read-requires
+read-requires c κs = search needs
 
 select-requires : tie.Need-select-requires
 select-requires c κs = search needs
 
-slice-write-words : tie.Need-slice-write-words
-slice-write-words c = search needs
+write-requires : tie.Need-write-requires
+write-requires c κs = search needs
 
 same-length : tie.Need-same-length
 same-length c = search needs
 
 returns : tie.Need-returns
 returns c =
-    let known = c .before in
-    let at-mask = known .before in
-    let a = at-mask .before .before .args in
-    ap (set (now (a .words)) (a .d / W)) (c .select .ensures)
-    ∙ put-piece W (lit< tt) (a .order) (now (a .words)) (a .d) (a .n) (a .v) (omega arith) (omega arith) (λ k. known .slice-known2 .given k .fits) (at-mask .before .before .fits .v .fits) (at-mask .mask .ensures)
+    let write = c .before .before in
+    let select = write .before .before in
+    let read = select .before in
+    let mask = read .before .before in
+    let known = mask .before in
+    let a = known .before .args in
+    write .write .ensures
+    ∙ ap (set (now (a .words)) (a .d / W)) (rw (read .read .ensures) at (select .select .ensures))
+    ∙ put-piece W (lit< tt) (a .order) (now (a .words)) (a .d) (a .n) (a .v) (omega arith) (omega arith) (λ k. known .slice-known .given k .fits) (known .before .fits .v .fits) (mask .mask .ensures)
 
 pub put-spec : {M : Type 1} → statement M
 put-spec =
     tie.close
     (tie.spec
     mask-requires
-    slice-read-select
+    read-requires
     select-requires
-    slice-write-words
+    write-requires
     same-length
     returns)

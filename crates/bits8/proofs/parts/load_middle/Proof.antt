@@ -16,14 +16,8 @@ use Rattle.bits8.proofs.parts.load_middle.Tie as tie
 add-end : tie.Need-add-end
 add-end c = search needs
 
-sub-load-whole : tie.Need-sub-load-whole
-sub-load-whole c = search needs
-
-part-load-whole-start : tie.Need-part-load-whole-start
-part-load-whole-start c = search needs
-
-part-load-whole-end : tie.Need-part-load-whole-end
-part-load-whole-end c = search needs
+part-requires : tie.Need-part-requires
+part-requires c κs = search needs
 
 load-whole-requires : tie.Need-load-whole-requires
 load-whole-requires c κs = search needs
@@ -33,7 +27,7 @@ returns c = let a = c .before .before .before .args in
     let l = a .start + a .whole - a .start in
     let part = take l (drop (a .start) (now (a .words))) in
     let len : length part ≡ a .whole = length-take-le l (drop (a .start) (now (a .words))) (simp length-drop (omega arith)) ∙ omega arith in
-    λ o. c .load-whole .ensures o ∙ ap (λ (n : ℕ). loadOf W o (a .significance) part 0 (n * W)) len
+    λ o. rw (c .before .part .ensures .0) at (c .load-whole .ensures o) ∙ ap (λ (n : ℕ). loadOf W o (a .significance) part 0 (n * W)) len
     ∙ load-part W (lit< tt) o (a .significance) (now (a .words)) (a .start) l (a .whole * W) (omega arith)
 
 pub load-middle-spec : {M : Type 1} → statement M
@@ -41,8 +35,6 @@ load-middle-spec =
     tie.close
     (tie.spec
     add-end
-    sub-load-whole
-    part-load-whole-start
-    part-load-whole-end
+    part-requires
     load-whole-requires
     returns)

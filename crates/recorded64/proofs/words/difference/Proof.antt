@@ -17,12 +17,8 @@ loop-holds c = omega arith
 word-of-requires : tie.Need-word-of-requires Inv-loop μ-loop
 word-of-requires c κs = tt
 
--- asked above 8 bits
-mul-given : tie.Need-mul-given Inv-loop μ-loop
-mul-given c = omega arith
-
-shared-slice-read-given : tie.Need-shared-slice-read-given Inv-loop μ-loop
-shared-slice-read-given c = omega arith
+read-requires : tie.Need-read-requires Inv-loop μ-loop
+read-requires c κs = omega arith
 
 differs-requires : tie.Need-differs-requires Inv-loop μ-loop
 differs-requires c κs = tt
@@ -50,8 +46,7 @@ difference-spec =
     μ-loop
     loop-holds
     word-of-requires
-    mul-given
-    shared-slice-read-given
+    read-requires
     differs-requires
     returns
     add-i

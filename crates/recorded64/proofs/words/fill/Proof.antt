@@ -2,7 +2,7 @@
 use mathlib.Core.Path.{_≡_, refl}
 use Prim.Native.Nat.{_-_, _≤_}
 use native.Mathlib.Omega.{arith}
-use lib.ListN.{length, length-set}
+use lib.ListN.{length}
 use Rattle.recorded64.proofs.words.fill.Statement.{statement}
 use Rattle.recorded64.proofs.words.fill.Tie as tie
 
@@ -18,12 +18,8 @@ loop-holds c = (omega arith, refl)
 word-of-requires : tie.Need-word-of-requires Inv-loop μ-loop
 word-of-requires c κs = tt
 
--- asked above 8 bits
-mul-words : tie.Need-mul-words Inv-loop μ-loop
-mul-words c = omega arith
-
-slice-write-words : tie.Need-slice-write-words Inv-loop μ-loop
-slice-write-words c = omega arith
+write-requires : tie.Need-write-requires Inv-loop μ-loop
+write-requires c κs = omega arith
 
 add-i : tie.Need-add-i Inv-loop μ-loop
 add-i c = omega arith
@@ -32,7 +28,7 @@ loop-less : tie.Need-loop-less Inv-loop μ-loop
 loop-less c = omega arith
 
 loop-again : tie.Need-loop-again Inv-loop μ-loop
-loop-again c = (omega arith, simp length-set (omega arith))
+loop-again c = (omega arith, omega arith)
 
 same-length : tie.Need-same-length Inv-loop μ-loop
 same-length c = omega arith
@@ -48,8 +44,7 @@ fill-spec =
     μ-loop
     loop-holds
     word-of-requires
-    mul-words
-    slice-write-words
+    write-requires
     add-i
     loop-less
     loop-again

@@ -2,7 +2,7 @@
 use mathlib.Core.Path.{_≡_, refl}
 use Prim.Native.Nat.{_-_, _≤_}
 use native.Mathlib.Omega.{arith}
-use lib.ListN.{length, length-set}
+use lib.ListN.{length}
 use Rattle.recorded8.proofs.words.fill.Statement.{statement}
 use Rattle.recorded8.proofs.words.fill.Tie as tie
 
@@ -18,8 +18,8 @@ loop-holds c = (omega arith, refl)
 word-of-requires : tie.Need-word-of-requires Inv-loop μ-loop
 word-of-requires c κs = tt
 
-slice-write-words : tie.Need-slice-write-words Inv-loop μ-loop
-slice-write-words c = omega arith
+write-requires : tie.Need-write-requires Inv-loop μ-loop
+write-requires c κs = omega arith
 
 add-i : tie.Need-add-i Inv-loop μ-loop
 add-i c = omega arith
@@ -28,7 +28,7 @@ loop-less : tie.Need-loop-less Inv-loop μ-loop
 loop-less c = omega arith
 
 loop-again : tie.Need-loop-again Inv-loop μ-loop
-loop-again c = (omega arith, simp length-set (omega arith))
+loop-again c = (omega arith, omega arith)
 
 same-length : tie.Need-same-length Inv-loop μ-loop
 same-length c = omega arith
@@ -44,7 +44,7 @@ fill-spec =
     μ-loop
     loop-holds
     word-of-requires
-    slice-write-words
+    write-requires
     add-i
     loop-less
     loop-again

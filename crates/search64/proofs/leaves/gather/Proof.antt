@@ -14,14 +14,10 @@ abbrev μ-loop : tie.MeasureT-loop
 μ-loop words f v₀ i₀ v i = length words - i
 
 loop-holds : tie.Need-loop-holds Inv-loop μ-loop
-loop-holds c = (omega arith, gathered-none (c .args .f) (c .args .words .now))
+loop-holds c = (omega arith, gathered-none (c .before .args .f) (c .before .args .words .now))
 
--- asked above 8 bits
-mul-v : tie.Need-mul-v Inv-loop μ-loop
-mul-v c = omega arith
-
-shared-slice-read-v : tie.Need-shared-slice-read-v Inv-loop μ-loop
-shared-slice-read-v c = omega arith
+read-requires : tie.Need-read-requires Inv-loop μ-loop
+read-requires c κs = omega arith
 
 add-i : tie.Need-add-i Inv-loop μ-loop
 add-i c = omega arith
@@ -32,12 +28,13 @@ loop-less c = omega arith
 loop-again : tie.Need-loop-again Inv-loop μ-loop
 loop-again c =
     let at-loop = c .before .before in
-    (omega arith, gathered-more (at-loop .before .args .f) (at-loop .before .args .words .now) (at-loop .loop .i) (at-loop .loop .v) (at-loop .loop .inv .1))
+    let a = at-loop .before .before .args in
+    rw (c .read .ensures) (omega arith, gathered-more (a .f) (a .words .now) (at-loop .loop .i) (at-loop .loop .v) (at-loop .loop .inv .1))
 
 returns : tie.Need-returns Inv-loop μ-loop
 returns c =
     let at-loop = c .before in
-    let e : at-loop .loop .i ≡ length (at-loop .before .args .words .now) = omega arith in
+    let e : at-loop .loop .i ≡ length (at-loop .before .before .args .words .now) = omega arith in
     rw e at (at-loop .loop .inv .1)
 
 pub gather-spec : {M : Type 1} → statement M
@@ -47,8 +44,7 @@ gather-spec =
     Inv-loop
     μ-loop
     loop-holds
-    mul-v
-    shared-slice-read-v
+    read-requires
     add-i
     loop-less
     loop-again

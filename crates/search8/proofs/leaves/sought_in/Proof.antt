@@ -13,8 +13,8 @@ flip-requires c κs = search needs
 mask-requires : tie.Need-mask-requires
 mask-requires c κs = search needs
 
-shared-slice-read-x : tie.Need-shared-slice-read-x
-shared-slice-read-x c = search needs
+read-requires : tie.Need-read-requires
+read-requires c κs = search needs
 
 under-requires : tie.Need-under-requires
 under-requires c κs = search needs
@@ -23,7 +23,7 @@ returns : tie.Need-returns
 returns c =
     let at-mask = c .before .before in
     let a = at-mask .before .before .before .args in
-    c .under .ensures
+    rw (c .before .read .ensures) at (c .under .ensures)
     ∙ masked-by W (a .order) (a .sought) (getD (a .words .now) (a .k) 0) (a .head .0) (a .n) (at-mask .before .flip .ensures) (at-mask .mask .ensures)
 
 pub sought-in-spec : {M : Type 1} → statement M
@@ -32,6 +32,6 @@ sought-in-spec =
     (tie.spec
     flip-requires
     mask-requires
-    shared-slice-read-x
+    read-requires
     under-requires
     returns)

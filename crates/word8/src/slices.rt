@@ -1,0 +1,30 @@
+// A word of a slice, read or written, and a part of one. An index into a slice is to be proved otherwise at each width; these are proved without
+// a file at any. A part that is written to is lent by its range: a function that handed it on could not say what becomes of the rest.
+use crate::Word;
+ghost use mathlib.Core.Path.{_≡_};
+ghost use Prim.Native.Nat.{_+_, _-_, _≤_, _<_};
+ghost use lib.ListN.{length, getD, set, take, drop};
+
+// Word i of those that are lent.
+pub fn read(words: &[Word], i: usize) -> Word
+    requires { ⌜ i < length (now words) ⌝ }
+    ensures { λ r. ⌜ r ≡ getD (now (words .entry)) i 0 ⌝ }
+{
+    words[i]
+}
+
+// Word i of those that are lent becomes x.
+pub fn write(words: &mut [Word], i: usize, x: Word)
+    requires { ⌜ i < length (now words) ⌝ }
+    ensures { λ _. ⌜ now (words .exit) ≡ set (now (words .entry)) i x ⌝ }
+{
+    words[i] = x;
+}
+
+// The words from `start` on and below `end`, of those that are lent.
+pub fn part(words: &[Word], start: usize, end: usize) -> &[Word]
+    requires { ⌜ (start ≤ end) × (end ≤ length (now words)) ⌝ }
+    ensures { λ r. ⌜ (now r ≡ take (end - start) (drop start (now (words .entry)))) × (start + length (now r) ≡ end) ⌝ }
+{
+    &words[start..end]
+}
