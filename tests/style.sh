@@ -19,6 +19,15 @@ try 'layout of rust' in_folder rust cargo fmt --check
 try 'layout of compare' in_folder compare cargo fmt --check
 try "layout of the oracle's stand-ins" in_folder oracle cargo fmt --check "${standins[@]}"
 
+# readable: no line of a source or of a definition is wider than a screen. (A character is one, however many bytes it has.)
+readable() {
+    local wide
+    wide=$(git ls-files --cached --others --exclude-standard 'crates/*/src/*' 'crates/*/specs/*' 'widths/*/src/*' 'widths/*/specs/*' \
+        | LC_ALL=C.UTF-8 xargs grep -nE '^.{161}')
+    [ -z "$wide" ] || { echo "$wide"; return 1; }
+}
+try 'no line above 160 characters' readable
+
 # remarks FOLDER WORDS...: clippy has none on what the words choose.
 remarks() { in_folder "$1" cargo clippy --quiet --offline --locked "${@:2}" -- -D warnings; }
 try 'clippy on rust' remarks rust --all-targets

@@ -14,7 +14,8 @@ pub use Rattle.rules.specs.declared.Number.the-variants.{Up, Down}
 pub use Rattle.rules.specs.declared.Operation.{Operation}
 pub use Rattle.rules.specs.declared.Operation.the-variants.{And, Or, Xor}
 pub use Rattle.rules.specs.declared.Refusal.{Refusal}
-pub use Rattle.rules.specs.declared.Refusal.the-variants.{TooManyWords, IndexTooLarge, OutOfBounds, NoSuchK, FieldLength, OrdersDiffer, LengthsDiffer, NotAnInteger, DoesNotFit, NotBelow}
+pub use Rattle.rules.specs.declared.Refusal.the-variants.{TooManyWords, IndexTooLarge, OutOfBounds, NoSuchK, FieldLength}
+pub use Rattle.rules.specs.declared.Refusal.the-variants.{OrdersDiffer, LengthsDiffer, NotAnInteger, DoesNotFit, NotBelow}
 pub use Rattle.rules.specs.declared.Verdict.{Verdict}
 pub use Rattle.rules.specs.declared.Verdict.the-variants.{Fine, Refused}
 pub use Rattle.rules.specs.declared.PositionAnswer.{PositionAnswer}

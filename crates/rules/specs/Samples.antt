@@ -70,5 +70,7 @@ pub sample-rows :
     map outcome samples
     ≡ loads (pos 0xCB) ∷ loads (pos 0x64) ∷ loads (pos 0xBC) ∷ loads (pos 0x46) ∷ loads (negsuc 52) ∷ loads (pos 6) ∷ loads (pos 5)
     ∷ loads (pos 0xF6C4) ∷ leaves (0xB0 ∷ 0x0C ∷ 0 ∷ []) ∷ leaves (0x0B ∷ 0xC0 ∷ 0 ∷ []) ∷ leaves (0xD0 ∷ []) ∷ []
-unfolding bitN ofBits tabulate bitAt fromBits position mirror row fromRow start spanBit inBounds within over spliced pieceFrom pieceUpto exponent weigh loadOf signedOf readAs bitsOf storeOf isSize isInteger moved copiedWithin verdict spanCases fieldCases valueCases loadCases storeCases withinCases cases answer! after! answer after
+unfolding bitN ofBits tabulate bitAt fromBits position mirror row fromRow start spanBit inBounds within over spliced pieceFrom pieceUpto
+    exponent weigh loadOf signedOf readAs bitsOf storeOf isSize isInteger moved copiedWithin verdict spanCases fieldCases valueCases
+    loadCases storeCases withinCases cases answer! after! answer after
 sample-rows = refl
