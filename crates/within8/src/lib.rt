@@ -136,8 +136,8 @@ fn whole_up(words: &mut [Word], order: Order, from: usize, to: usize, k: usize)
     joined_up(words, order, Index(h), b, a, k);
 }
 
-// k words from word b on, the last one first, each from the word before it and itself. The loop speaks of word b alone and counts last, so
-// that the compiler sees which words overlap; for the same reason it has its words by index and not by `read` and `write`.
+// Each of the k words after word b becomes the one before it joined with itself at a head, the last one first. The loop speaks of word b alone and
+// counts last, so that the compiler sees which words overlap; for the same reason it has its words by index and not by `read` and `write`.
 fn joined_next(words: &mut [Word], order: Order, head: Index, b: usize, k: usize)
     requires { ⌜ (1 ≤ head .0) × (head .0 < W) × (b + 1 + k ≤ length (now words)) × (length (now words) ≤ 65536) ⌝ }
     ensures { λ _. ⌜ now (words .exit) ≡ moved W order (now (words .entry)) (b * W + head .0) ((b + 1) * W) (k * W) ⌝ }
@@ -150,7 +150,7 @@ fn joined_next(words: &mut [Word], order: Order, head: Index, b: usize, k: usize
     }
 }
 
-// k words from word b on, the last one first, each joined of two words from word a on at a head.
+// The k words from word a on become those that begin at a head from word b on, the last one first.
 fn joined_down(words: &mut [Word], order: Order, head: Index, b: usize, a: usize, k: usize)
     requires { ⌜ (1 ≤ head .0) × (head .0 < W) × (b + k + 1 ≤ length (now words)) × (a + k ≤ length (now words)) × (b + 1 ≤ a)
         × (length (now words) ≤ 65536) ⌝ }
@@ -164,7 +164,7 @@ fn joined_down(words: &mut [Word], order: Order, head: Index, b: usize, a: usize
     }
 }
 
-// k words from word b on, the last one first, become those from word a on.
+// The k words from word a on become those from word b on, the last one first.
 fn plain_down(words: &mut [Word], b: usize, a: usize, k: usize)
     requires { ⌜ (b + k ≤ length (now words)) × (a + k ≤ length (now words)) × (b ≤ a) × (length (now words) ≤ 65536) ⌝ }
     ensures { λ _. ⌜ ((o : Order) → Words W (now (words .entry)) → now (words .exit) ≡ moved W o (now (words .entry)) (b * W + 0) (a * W) (k * W)) ⌝ }
@@ -177,7 +177,7 @@ fn plain_down(words: &mut [Word], b: usize, a: usize, k: usize)
     }
 }
 
-// k words from word b on, the first one first, each joined of two words from word a on at a head.
+// The k words from word a on become those that begin at a head from word b on, the first one first.
 fn joined_up(words: &mut [Word], order: Order, head: Index, b: usize, a: usize, k: usize)
     requires { ⌜ (1 ≤ head .0) × (head .0 < W) × (b + k + 1 ≤ length (now words)) × (a + k ≤ length (now words)) × ((a ≤ b) ⊎ (b + k + 1 ≤ a))
         × (length (now words) ≤ 65536) ⌝ }
@@ -191,7 +191,7 @@ fn joined_up(words: &mut [Word], order: Order, head: Index, b: usize, a: usize, 
     }
 }
 
-// k words from word b on, the first one first, become those from word a on.
+// The k words from word a on become those from word b on, the first one first.
 fn plain_up(words: &mut [Word], b: usize, a: usize, k: usize)
     requires { ⌜ (b + k ≤ length (now words)) × (a + k ≤ length (now words)) × ((a ≤ b) ⊎ (b + k ≤ a)) × (length (now words) ≤ 65536) ⌝ }
     ensures { λ _. ⌜ ((o : Order) → Words W (now (words .entry)) → now (words .exit) ≡ moved W o (now (words .entry)) (b * W + 0) (a * W) (k * W)) ⌝ }

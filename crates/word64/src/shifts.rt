@@ -1,4 +1,5 @@
-// A word of 64 bits moved along its positions. A shift by a `usize` is to be proved otherwise at each width; these two are proved without a file at any.
+// A word of 64 bits moved along its positions. A shift by a `usize` asks for a proof that depends on the width; these two need no
+// proof file at any width.
 use crate::Word;
 ghost use mathlib.Core.Path.{_≡_};
 ghost use Prim.Native.Nat.{_*_, _/_, _%_, _^_, _<_};

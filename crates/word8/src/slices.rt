@@ -1,5 +1,5 @@
-// A word of a slice, read or written, and a part of one. An index into a slice is to be proved otherwise at each width; these are proved without
-// a file at any. A part that is written to is lent by its range: a function that handed it on could not say what becomes of the rest.
+// A word of a slice, read or written, and a part of one to read. An index into a slice asks for a proof that depends on the width; these three need
+// no proof file at any width. A part to write is lent by its range: a function that handed it on could not promise what the slice holds afterwards.
 use crate::Word;
 ghost use mathlib.Core.Path.{_≡_};
 ghost use Prim.Native.Nat.{_+_, _-_, _≤_, _<_};
