@@ -21,10 +21,10 @@ try "layout of the oracle's stand-ins" in_folder oracle cargo fmt --check "${sta
 
 # readable: no line of a source or of a definition is wider than a screen. (A character is one, however many bytes it has.)
 readable() {
-    local wide
-    wide=$(git ls-files --cached --others --exclude-standard 'crates/*/src/*' 'crates/*/specs/*' 'widths/*/src/*' 'widths/*/specs/*' \
-        | LC_ALL=C.UTF-8 xargs grep -nE '^.{161}')
-    [ -z "$wide" ] || { echo "$wide"; return 1; }
+    local files
+    mapfile -t files < <(git ls-files --cached --others --exclude-standard 'crates/*/src/*' 'crates/*/specs/*' 'widths/*/src/*' 'widths/*/specs/*')
+    [ ${#files[@]} -gt 0 ] || { echo 'no source is found'; return 1; }
+    ! LC_ALL=C.UTF-8 grep -nE '^.{161}' "${files[@]}"
 }
 try 'no line above 160 characters' readable
 

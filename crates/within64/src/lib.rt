@@ -137,7 +137,7 @@ fn whole_up(words: &mut [Word], order: Order, from: usize, to: usize, k: usize)
 }
 
 // Each of the k words after word b becomes the one before it joined with itself at a head, the last one first. The loop speaks of word b alone and
-// counts last, so that the compiler sees which words overlap; for the same reason it has its words by index and not by `read` and `write`.
+// counts last, so that the compiler sees which words overlap. It has its words by index: by `read` and `write` a call takes a few instructions more.
 fn joined_next(words: &mut [Word], order: Order, head: Index, b: usize, k: usize)
     requires { ⌜ (1 ≤ head .0) × (head .0 < W) × (b + 1 + k ≤ length (now words)) × (length (now words) ≤ 65536) ⌝ }
     ensures { λ _. ⌜ now (words .exit) ≡ moved W order (now (words .entry)) (b * W + head .0) ((b + 1) * W) (k * W) ⌝ }
