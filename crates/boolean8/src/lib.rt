@@ -1,6 +1,8 @@
 // Boolean operations on two rows of words of 8 bits, the result into the left one. An operation is the number of its truth table: the
 // result for left bit a and right bit b is bit 2a + b of it (and 8, or 14, xor 6). The left row is cut into a first piece up to a word's
 // end, whole words and a last piece.
+#![tactic(auto)]
+
 ghost use Rattle.std.specs.Prelude.{◌≡◌, ℕ, ◌+◌, ◌-◌, ◌*◌, ◌/◌, ◌%◌, ◌≤◌, ◌<◌, length, get_or};
 ghost use Rattle.word8.specs.Width.{W};
 ghost use Rattle.rules.specs.Bits.{bit_n};

@@ -1,5 +1,7 @@
 // The border to C: which order, sign and so on a code names, and how an answer leaves as a number and behind pointers. The exported calls
 // are made of it and of the library's calls.
+#![tactic(auto)]
+
 mod codes;
 mod leaving;
 

@@ -1,4 +1,6 @@
 // Words of 64 bits as numbers, one at a time: a word is a chunk of 64 bits.
+#![tactic(auto)]
+
 mod chunks;
 mod words;
 

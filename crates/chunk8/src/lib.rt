@@ -1,4 +1,6 @@
 // Bytes as numbers, one at a time and eight together: a chunk of 64 bits.
+#![tactic(auto)]
+
 mod chunks;
 mod words;
 

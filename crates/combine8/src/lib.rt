@@ -1,5 +1,7 @@
 // What a boolean operation does to words of 8 bits: to two of them, and to a row of whole ones. An operation is the number of its truth table: the
 // result for left bit a and right bit b is bit 2a + b of it (and 8, or 14, xor 6).
+#![tactic(auto)]
+
 ghost use Rattle.std.specs.Prelude.{◌≡◌, ℕ, ◌+◌, ◌/◌, ◌%◌, ◌≤◌, ◌<◌, length, get_or};
 ghost use Rattle.word8.specs.Width.{W};
 ghost use Rattle.rules.specs.Bits.{bit_n};

@@ -1,5 +1,7 @@
 // Copy from one buffer of words of 64 bits to another. The target's row is cut into a first piece up to a word's end, whole words and a
 // last piece, so that each of its words is written once.
+#![tactic(auto)]
+
 ghost use Rattle.std.specs.Prelude.{◌≡◌, ℕ, ◌+◌, ◌*◌, ◌%◌, ◌≤◌, ◌<◌, length, get_or};
 ghost use Rattle.word64.specs.Width.{W};
 ghost use Rattle.rules.specs.Positions.{row, spliced};

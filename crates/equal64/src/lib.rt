@@ -1,5 +1,7 @@
 // Equality of two rows of words of 64 bits. The left row is cut into a first piece, whole words and a last piece. Words are compared in
 // blocks with no exit inside, since the compiler makes vector code of such a loop alone.
+#![tactic(auto)]
+
 ghost use Rattle.std.specs.Prelude.{◌≡◌, ℕ, ◌+◌, ◌*◌, ◌/◌, ◌%◌, ◌≤◌, ◌<◌, length, get_or};
 ghost use Rattle.word64.specs.Width.{W};
 ghost use Rattle.rules.specs.Positions.{row};

@@ -1,4 +1,6 @@
 // Single bits and fields of words of 8 bits. Every call takes any arguments: its promise is the rules' answer to them, and each lent word.
+#![tactic(auto)]
+
 ghost use Rattle.std.specs.Prelude.{◌≡◌};
 ghost use Rattle.word8.specs.Width.{W};
 ghost use Rattle.rules.specs.Fields.{whole};

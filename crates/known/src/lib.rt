@@ -1,5 +1,7 @@
 // Fields taken by Rattle code that knows their order and significance, for the benchmark: one call from C takes many. This is no part of
 // the library.
+#![tactic(auto)]
+
 mod known64;
 mod known8;
 mod taken;

@@ -1,5 +1,7 @@
 // Two parties in one byte: a mixture of their calls, and each party's calls alone. The first party has positions 0 to 3 and works in Lsb0,
 // the second has positions 4 to 7 and works in Msb0. Each gets the same answers and the same half of the byte in both runs.
+#![tactic(auto)]
+
 use requests::{Request, Side};
 use rules::{Number, Operation, Order, Sign, Significance, Span};
 

@@ -1,4 +1,6 @@
 // Every one-buffer call behind one function, over words of 8 bits: where the isolation theorem meets the code.
+#![tactic(auto)]
+
 ghost use Rattle.std.specs.Prelude.{◌≡◌};
 ghost use Rattle.word8.specs.Width.{W};
 ghost use Rattle.rules.specs.Calls.{find_first, find_last, equal, digit, answer, after};

@@ -1,4 +1,6 @@
 // What every width shares as numbers: runs of ones, and the pieces of a field.
+#![tactic(auto)]
+
 ghost use Rattle.std.specs.Prelude.{◌≡◌, true, false, ◌+◌, ◌-◌, ◌*◌, ◌<◌, ◌≤◌, ◌^◌};
 ghost use Rattle.rules.proofs.Fields.Field.{lowest};
 ghost use Rattle.laws.proofs.Fields.Chunk.{masked};
@@ -11,7 +13,7 @@ pub const CHUNK: usize = 64;
 
 // A run of bits cut where words end: how many bits of the first word, how many whole words after it, how many bits of the last word. The
 // first piece is never empty; it ends with its word unless it is all.
-#[derive(Drop)]
+#[derive(Clone, Copy)]
 pub struct Cut {
     pub first: usize,
     pub whole: usize,

@@ -1,4 +1,6 @@
 // A record's call on 8-bit words: the words as the record has them, the call, and what is seen after it.
+#![tactic(auto)]
+
 mod fields;
 mod rows;
 mod searches;

@@ -12,7 +12,7 @@ use crate::places::{due_length, first_lent, second_lent};
 
 // What is wrong with a record, or that nothing is: its call, its width, whose answer it is, the bytes that mean nothing, a code above 255,
 // too many lent words, or a length that does not come from the rest.
-#[derive(Drop)]
+#[derive(Clone, Copy)]
 pub enum Fault {
     Nothing,
     Call,

@@ -15,7 +15,7 @@ pub const SHORTEST: usize = 40;
 pub const LONGEST: usize = 216;
 
 // How a file begins: with the label and the number of its records, with too few bytes for them, or with something else.
-#[derive(Drop)]
+#[derive(Clone, Copy)]
 pub enum Start {
     Records(u64),
     Short,
@@ -23,7 +23,7 @@ pub enum Start {
 }
 
 // What comes next in the file: a record, one that is cut short, or one of a length that none has.
-#[derive(Drop)]
+#[derive(Clone, Copy)]
 pub enum Next {
     Whole,
     Short,

@@ -2,7 +2,7 @@
 use crate::parts::{result, returned};
 
 // What a call returned, and its out-values in their order. Those that the call lacks are 0, as a record's missing results are.
-#[derive(Drop)]
+#[derive(Clone, Copy)]
 pub struct Given {
     pub code: u8,
     pub first: u64,
@@ -11,7 +11,7 @@ pub struct Given {
 }
 
 // Whether the words of one buffer are a record's after the call, or the first of them that is not.
-#[derive(Drop)]
+#[derive(Clone, Copy)]
 pub enum Spot {
     Same,
     Differs {
@@ -22,7 +22,7 @@ pub enum Spot {
 }
 
 // All that can be seen after a call: what it gave, and the words lent first and second.
-#[derive(Drop)]
+#[derive(Clone, Copy)]
 pub struct Seen {
     pub given: Given,
     pub first: Spot,

@@ -1,5 +1,7 @@
 // The tables of refusals as code, before any word is read: each check promises the verdict of its table, which is the first row that holds. (Those
 // of a span alone, and of a place in it, are the span's own `check` and `check_place`.)
+#![tactic(auto)]
+
 mod fields;
 mod rows;
 mod values;

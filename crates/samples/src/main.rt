@@ -1,4 +1,6 @@
 // Runs document 01's sample rows and limits through the library and prints them as a table that a person can hold against the document.
+#![tactic(auto)]
+
 mod fields;
 mod limits;
 mod numbers;

@@ -1,4 +1,6 @@
 // The four searches over words of 64 bits: the smallest or the largest index, counted from the span's start, of a one or a zero.
+#![tactic(auto)]
+
 mod backward;
 mod forward;
 mod leaves;

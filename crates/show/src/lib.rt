@@ -1,5 +1,7 @@
 // Text, numbers and answers on standard output, for the programs that print them. Each answer is printed as its value, or as "refused" and
 // the number of the refusal.
+#![tactic(auto)]
+
 use libc::STDOUT_FILENO;
 use requests::Reply;
 use rules::{

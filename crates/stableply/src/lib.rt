@@ -1,5 +1,7 @@
 // The exported calls: what C, Rust and every other language link. Each returns 0 where the request is accepted, else the number of refusal,
 // or 255 where an argument is no code of this interface. What a pointer points to is written only where the call returns 0.
+#![tactic(auto)]
+
 pub mod fields64;
 pub mod fields8;
 pub mod rows64;

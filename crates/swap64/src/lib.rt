@@ -1,5 +1,7 @@
 // Swap of two rows in two buffers of words of 64 bits. Rows at the same head are exchanged in place, word by word. Rows at different heads
 // go block by block: the left block waits in scratch words while the right one is copied over it.
+#![tactic(auto)]
+
 ghost use Rattle.std.specs.Prelude.{◌≡◌, ℕ, ◌+◌, ◌*◌, ◌%◌, ◌≤◌, ◌<◌, length, get_or};
 ghost use Rattle.word64.specs.Width.{W};
 ghost use Rattle.rules.specs.declared.Order.{Order};

@@ -1,5 +1,7 @@
 // Copy within one buffer of words of 64 bits, in place and without scratch words: a piece, whole words, a piece. Downward, the last bits
 // first, exactly if the source range contains the destination; else upward.
+#![tactic(auto)]
+
 ghost use Rattle.std.specs.Prelude.{◌≡◌, ◌⊎◌, ◌+◌, ◌*◌, ◌%◌, ◌≤◌, ◌<◌, length};
 ghost use Rattle.word64.specs.Width.{W};
 ghost use Rattle.rules.specs.declared.Order.{Order};

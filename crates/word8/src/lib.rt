@@ -1,4 +1,6 @@
 // The leaves that know a word of 8 bits. All that is done to a word by its order is done here; what is above speaks of indexes alone.
+#![tactic(auto)]
+
 mod shifts;
 mod slices;
 mod zeros;

@@ -1,4 +1,6 @@
 // The calls without lent words: positions, selectors and masks, and numbers of K bits. (Those on spans are the span's own methods.)
+#![tactic(auto)]
+
 mod numbers;
 mod orders;
 
