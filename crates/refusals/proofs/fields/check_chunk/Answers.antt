@@ -10,41 +10,41 @@ use Rattle.rules.proofs.Refusals.OneAnswer.{judges}
 use Rattle.refusals.proofs.fields.check_chunk.Goals as goal
 
 pub reason-requires : goal.reason-requires
-reason-requires c = λ e. c.is_begun-begun.ensures.1 (not-true c.is_begun-begun.result c.if-not-begun.true) (fine_begun _ _ _ _ e)
+reason-requires c = λ e. c.is_begun-begun.ensures.1 c.if-not-begun.true (fine_begun _ _ _ _ e)
 
 pub returns-then-not-begun : goal.returns-then-not-begun
 returns-then-not-begun c = judges (sym c.reason.ensures)
 
 pub overflow_sub-span : goal.overflow_sub-span
 overflow_sub-span c =
-    let begun : (let a = c.args in Begun a.lent a.span.word a.span.len a.k) = c.is_begun-begun.ensures.0 (not-false c.is_begun-begun.result c.if-not-begun.false) in
+    let begun : (let a = c.args in Begun a.lent a.span.word a.span.len a.k) = c.is_begun-begun.ensures.0 c.if-not-begun.false in
     let small : c.args.span.len ≤ 64 = let b = begun in omega (arith, b.fitting, one_of _ b.sized) in
     small
 
 pub returns-then-head-span : goal.returns-then-head-span
 returns-then-head-span c =
-    let begun : (let a = c.args in Begun a.lent a.span.word a.span.len a.k) = c.is_begun-begun.ensures.0 (not-false c.is_begun-begun.result c.if-not-begun.false) in
+    let begun : (let a = c.args in Begun a.lent a.span.word a.span.len a.k) = c.is_begun-begun.ensures.0 c.if-not-begun.false in
     let small : c.args.span.len ≤ 64 = let b = begun in omega (arith, b.fitting, one_of _ b.sized) in
     judges (let l = small in sym (within_fine _ _ _ _ (begun) (omega arith)))
 
 pub returns-then-head-ge-CHUNK : goal.returns-then-head-ge-CHUNK
 returns-then-head-ge-CHUNK c =
-    let begun : (let a = c.args in Begun a.lent a.span.word a.span.len a.k) = c.is_begun-begun.ensures.0 (not-false c.is_begun-begun.result c.if-not-begun.false) in
+    let begun : (let a = c.args in Begun a.lent a.span.word a.span.len a.k) = c.is_begun-begun.ensures.0 c.if-not-begun.false in
     judges (sym (head_refused _ _ _ _ (begun) (omega arith)))
 
 pub overflow_add-span : goal.overflow_add-span
 overflow_add-span c =
-    let begun : (let a = c.args in Begun a.lent a.span.word a.span.len a.k) = c.is_begun-begun.ensures.0 (not-false c.is_begun-begun.result c.if-not-begun.false) in
+    let begun : (let a = c.args in Begun a.lent a.span.word a.span.len a.k) = c.is_begun-begun.ensures.0 c.if-not-begun.false in
     let b = begun in omega (arith, b.first, b.few)
 
 pub returns-then-lent-span : goal.returns-then-lent-span
 returns-then-lent-span c =
-    let begun : (let a = c.args in Begun a.lent a.span.word a.span.len a.k) = c.is_begun-begun.ensures.0 (not-false c.is_begun-begun.result c.if-not-begun.false) in
+    let begun : (let a = c.args in Begun a.lent a.span.word a.span.len a.k) = c.is_begun-begun.ensures.0 c.if-not-begun.false in
     let small : c.args.span.len ≤ 64 = let b = begun in omega (arith, b.fitting, one_of _ b.sized) in
     judges (let l = small in sym (end_refused _ _ _ _ (begun) (omega arith) (omega arith) (omega arith)))
 
 pub returns : goal.returns
 returns c =
-    let begun : (let a = c.args in Begun a.lent a.span.word a.span.len a.k) = c.is_begun-begun.ensures.0 (not-false c.is_begun-begun.result c.if-not-begun.false) in
+    let begun : (let a = c.args in Begun a.lent a.span.word a.span.len a.k) = c.is_begun-begun.ensures.0 c.if-not-begun.false in
     let small : c.args.span.len ≤ 64 = let b = begun in omega (arith, b.fitting, one_of _ b.sized) in
     judges (let l = small in sym (across_fine _ _ _ _ (begun) (omega arith) (omega arith) (omega arith)))

@@ -8,19 +8,19 @@ use Rattle.rules.proofs.Refusals.OneAnswer.{judges}
 use Rattle.refusals.proofs.values.check_field.Goals as goal
 
 pub returns-then-not-sized : goal.returns-then-not-sized
-returns-then-not-sized c = judges (sym (no_such_K _ _ (sym c.is_size-sized.ensures ∙ not-true c.is_size-sized.result c.if-not-sized.true)))
+returns-then-not-sized c = judges (sym (no_such_K _ _ (sym c.is_size-sized.ensures ∙ c.if-not-sized.true)))
 
 pub returns-then-len-eq0 : goal.returns-then-len-eq0
 returns-then-len-eq0 c =
-    let sized : is_size c.args.k ≡ true = sym c.is_size-sized.ensures ∙ not-false c.is_size-sized.result c.if-not-sized.false in
+    let sized : is_size c.args.k ≡ true = sym c.is_size-sized.ensures ∙ c.if-not-sized.false in
     judges (sym (empty_field _ _ (sized) c.if-len-eq0.true))
 
 pub returns-then-k-len : goal.returns-then-k-len
 returns-then-k-len c =
-    let sized : is_size c.args.k ≡ true = sym c.is_size-sized.ensures ∙ not-false c.is_size-sized.result c.if-not-sized.false in
+    let sized : is_size c.args.k ≡ true = sym c.is_size-sized.ensures ∙ c.if-not-sized.false in
     judges (sym (long_field _ _ (sized) c.if-k-len.true))
 
 pub returns : goal.returns
 returns c =
-    let sized : is_size c.args.k ≡ true = sym c.is_size-sized.ensures ∙ not-false c.is_size-sized.result c.if-not-sized.false in
+    let sized : is_size c.args.k ≡ true = sym c.is_size-sized.ensures ∙ c.if-not-sized.false in
     judges (sym (field_fine _ _ (sized) c.if-len-eq0.false c.if-k-len.false))

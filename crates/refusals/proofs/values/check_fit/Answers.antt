@@ -23,10 +23,10 @@ pub returns-then-small : goal.returns-then-small
 unfolding fitting_cases
 returns-then-small c =
     let fine : verdict ((let a = c.args in value_cases a.k a.len a.sign (whole a.value))) ≡ Fine = sym (judged c.check_value-verdict.ensures) ∙ c.in-Fine.is in
-    judges (sym (last_clear _ _ _ (fine) (ap not (sym c.fits2.ensures ∙ c.if-small.true))))
+    judges (sym (last_clear _ _ _ (fine) (ap not (sym c.fits-small.ensures ∙ c.if-small.true))))
 
 pub returns-else-small : goal.returns-else-small
 unfolding fitting_cases
 returns-else-small c =
     let fine : verdict ((let a = c.args in value_cases a.k a.len a.sign (whole a.value))) ≡ Fine = sym (judged c.check_value-verdict.ensures) ∙ c.in-Fine.is in
-    judges (sym (last_holds _ _ _ (fine) (ap not (sym c.fits2.ensures ∙ c.if-small.false))))
+    judges (sym (last_holds _ _ _ (fine) (ap not (sym c.fits-small.ensures ∙ c.if-small.false))))

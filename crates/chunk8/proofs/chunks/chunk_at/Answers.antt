@@ -1,0 +1,26 @@
+-- `chunk_at`: a chunk is eight words by le, turned for be. Assumes nothing.
+use mathlib.Core.Path.{◌≡◌, ◌∙◌, ap}
+use Prim.Native.Nat.{◌*◌}
+use lib.Dec.{lit<}
+use Rattle.rules.specs.declared.Order.TheVariants.{Lsb0, Msb0}
+use Rattle.rules.specs.declared.Significance.TheVariants.{Be}
+use Rattle.rules.specs.Fields.{load_of}
+use Rattle.laws.proofs.Fields.Chunk.{own}
+use Rattle.laws.proofs.Fields.Cuts.{load_fits}
+use Rattle.laws.proofs.Fields.Turned.{turned, turned_load}
+use Rattle.chunk8.proofs.chunks.chunk_at.Goals as goal
+
+big : (c : goal.After-turn_eight) → (let a = c.args in c.turn_eight.result ≡ load_of 8 Msb0 Be a.words.now (a.at * 8) 64)
+big c =
+    let a = c.args in
+    c.turn_eight.ensures ∙ ap (turned 8 3) (c.eight_at-x.ensures.0 Msb0) ∙ turned_load 8 (lit< tt) Msb0 a.words.now 3 a.at
+
+pub returns-in-Lsb0 : goal.returns-in-Lsb0
+unfolding own
+returns-in-Lsb0 c = rw c.in-Lsb0.is (c.eight_at.ensures.0 Lsb0, c.eight_at.ensures.1)
+
+pub returns-in-Msb0 : goal.returns-in-Msb0
+unfolding own
+returns-in-Msb0 c =
+    let a = c.args in
+    rw c.in-Msb0.is (big c, (load_fits 8 (lit< tt) Msb0 Be a.words.now (a.at * 8) 64 (big c)).1)

@@ -1,0 +1,12 @@
+-- `word64::up` moves a word up along its indexes: to the left under Lsb0, to the right under Msb0.
+use mathlib.Core.Path.{◌∙◌}
+use borrow.Author.Rules.{rules}
+use Rattle.word64.specs.Width.{W}
+use Rattle.laws.proofs.Words.Moves.{up_lsb0, up_msb0}
+use Rattle.word64.proofs.up.Goals as goal
+
+pub returns-in-Lsb0 : goal.returns-in-Lsb0
+returns-in-Lsb0 c = c.shl.ensures ∙ up_lsb0 W _ _ _ (search rules)
+
+pub returns-in-Msb0 : goal.returns-in-Msb0
+returns-in-Msb0 c = c.shr.ensures ∙ up_msb0 W _ _ _ (search rules)
