@@ -1,0 +1,34 @@
+-- `load_bits`: the first piece and the rest, joined. Assumes nothing.
+use native.Mathlib.Omega.{arith}
+use mathlib.Core.Path.{◌≡◌, sym, ap, ◌∙◌}
+use Prim.Native.Nat.{ℕ, ◌+◌, ◌-◌, ◌*◌, ◌^◌, ◌<◌, ◌≤◌}
+use lib.Dec.{lit<}
+use Rattle.word64.specs.Width.{W}
+use Rattle.rules.specs.Fields.{load_of}
+use Rattle.laws.proofs.Fields.Cuts.{joined, load_fits, load_rest}
+use Rattle.bits64.proofs.bits.load_bits.Goals as goal
+
+pub load_rest-b-requires : goal.load_rest-b-requires
+load_rest-b-requires c = let k = c.across-cut.ensures.all in
+    let e = c.across-cut.ensures.edge (omega arith) in
+    let l = c.across-cut.ensures.rest in
+    (omega arith, omega arith, omega arith)
+
+pub join-requires : goal.join-requires
+join-requires c =
+    let rest : (let r = c.across-cut.result in r.whole * W + r.last ≡ c.args.len - r.first) = let k = c.across-cut.ensures.all in omega arith in
+    let r = rest in
+    (omega arith, omega arith, omega arith, c.piece_at-a.ensures.1, rw (← r) c.load_rest-b.ensures.1)
+
+pub returns : goal.returns
+returns c =
+    let rest : (let r = c.across-cut.result in r.whole * W + r.last ≡ c.args.len - r.first) = let k = c.across-cut.ensures.all in omega arith in
+    let a = c.args in
+    let r = c.across-cut.result in
+    let m = r.whole * W + r.last in
+    let e = rest in
+    let w = c.across-cut.ensures.all in
+    load_fits W (lit< tt) a.order a.significance a.words.now (a.word * W + a.head.0) a.len
+    (c.join.ensures ∙ ap (joined a.significance c.piece_at-a.result r.first c.load_rest-b.result) (sym e)
+    ∙ load_rest W (lit< tt) a.order a.significance a.words.now a.word a.head.0 r.first m (c.across-cut.ensures.edge (omega arith)) (c.piece_at-a.ensures.0 a.significance) c.load_rest-b.ensures.0
+    ∙ ap (load_of W a.order a.significance a.words.now (a.word * W + a.head.0)) (omega arith))

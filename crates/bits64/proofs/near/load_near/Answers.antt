@@ -1,0 +1,48 @@
+-- `load_near`: a piece of the chunk, or that and a piece of the word after it. Assumes nothing.
+use native.Mathlib.Omega.{arith}
+use mathlib.Core.Path.{◌≡◌, refl, sym, ap, ap₂, ◌∙◌}
+use Prim.Native.Nat.{ℕ, ◌+◌, ◌-◌, ◌*◌, ◌/◌, ◌^◌, ◌<◌, ◌≤◌}
+use lib.Dec.{lit<}
+use lib.ListN.{length}
+use Rattle.word64.specs.Width.{W}
+use Rattle.rules.specs.declared.Significance.{Significance}
+use Rattle.rules.specs.Fields.{load_of}
+use Rattle.laws.proofs.Fields.Chunk.{own, chunk, chunk_piece, chunk_two}
+use Rattle.laws.proofs.Fields.Cuts.{joined, load_fits}
+use Rattle.bits64.proofs.near.load_near.Goals as goal
+
+pub returns-then-first-len : goal.returns-then-first-len
+returns-then-first-len c = let a = c.args in
+    let r = c.of-cut.result in
+    let o = a.order in
+    let all : r.first ≡ a.len = omega arith in
+    load_fits W (lit< tt) o a.significance a.words.now (a.word * W + a.head.0) a.len
+    (c.piece-a.ensures.0 ∙ chunk_piece W (lit< tt) o a.words.now a.word chunk c.chunk_at-x.ensures.0 a.head.0 r.first (omega arith)
+    ∙ ap₂ (λ (e : Significance) (n : ℕ). load_of W o e a.words.now (a.word * W + a.head.0) n) (sym c.requires.5) all)
+
+pub piece_at-b-requires : goal.piece_at-b-requires
+piece_at-b-requires c =
+    let edge : (c.args.head.0 + c.of-cut.result.first ≡ chunk) = let k = c.of-cut.ensures.all in c.of-cut.ensures.edge (omega arith) in
+    let e = edge in
+    let k = c.of-cut.ensures.all in
+    (omega arith, omega arith, omega arith)
+
+pub join-requires : goal.join-requires
+join-requires c = let k = c.of-cut.ensures.all in
+    (omega arith, omega arith, omega arith, c.piece-a.ensures.1, c.piece_at-b.ensures.1)
+
+pub returns : goal.returns
+returns c =
+    let edge : (c.args.head.0 + c.of-cut.result.first ≡ chunk) = let k = c.of-cut.ensures.all in c.of-cut.ensures.edge (omega arith) in
+    let a = c.args in
+    let r = c.of-cut.result in
+    let o = a.order in
+    let s = c.requires.5 in
+    let cuts = c.of-cut.ensures.all in
+    let e = edge in
+    let all : r.first + r.last ≡ a.len = omega arith in
+    load_fits W (lit< tt) o a.significance a.words.now (a.word * W + a.head.0) a.len
+    (c.join.ensures ∙ ap (λ (e : Significance). joined e c.piece-a.result r.first c.piece_at-b.result r.last) s
+    ∙ chunk_two W (lit< tt) o a.words.now a.word chunk c.chunk_at-x.ensures.0 (chunk / W) a.head.0 r.first r.last refl e (omega arith)
+    c.piece-a.ensures.0 (c.piece_at-b.ensures.0 (own o))
+    ∙ ap₂ (λ (e : Significance) (n : ℕ). load_of W o e a.words.now (a.word * W + a.head.0) n) (sym s) all)
