@@ -1,0 +1,31 @@
+-- `copy64::copy_row` is three splices, each of which goes on where the one before stopped.
+use mathlib.Core.Path.{refl, ap}
+use Prim.Native.Nat.{ℕ, ◌+◌, ◌-◌, ◌*◌, ◌/◌}
+use native.Mathlib.Nat.{add_assoc}
+use native.Mathlib.Omega.{arith}
+use lib.Dec.{lit<}
+use Rattle.word64.specs.Width.{W}
+use Rattle.rules.specs.Positions.{row}
+use Rattle.laws.proofs.Rows.Part.{on_word, grown}
+use Rattle.copy64.proofs.copy_row.Goals as goal
+
+pub whole-requires : goal.whole-requires
+whole-requires c =
+    ((λ h. c.lead-first.ensures.2 (omega arith)), omega arith, omega arith, omega arith)
+
+pub last_piece-requires : goal.last_piece-requires
+last_piece-requires c =
+    let a = c.args in
+    let r = c.lead-first.result in
+    ((λ h. on_word W a.d r ((a.len - r) / W) (c.lead-first.ensures.2 (omega arith))), omega arith, omega arith, omega arith, omega arith)
+
+pub returns : goal.returns
+returns c =
+    let a = c.args in
+    let r = c.lead-first.result in
+    let k = (a.len - r) / W in
+    let from : ℕ → ℕ = λ i. row W a.order a.source.now (a.s + i) in
+    grown W (lit< tt) a.order a.words.now a.d from (r + k * W) (a.len - (r + k * W)) a.len (λ j. row W a.order a.source.now (a.s + (r + k * W) + j)) (omega arith)
+    (grown W (lit< tt) a.order a.words.now a.d from r (k * W) (r + k * W) (λ j. row W a.order a.source.now (a.s + r + j)) refl c.first_piece.ensures c.whole.ensures
+    (λ j l. ap (row W a.order a.source.now) (add_assoc a.s r j)))
+    c.last_piece.ensures (λ j l. ap (row W a.order a.source.now) (add_assoc a.s (r + k * W) j))

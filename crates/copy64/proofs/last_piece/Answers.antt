@@ -1,0 +1,27 @@
+-- `copy64::last_piece` puts the bits in either order, from a word's start on.
+use mathlib.Core.Path.{sym, ap₂, ◌∙◌}
+use Prim.Native.Nat.{ℕ, ◌+◌}
+use native.Mathlib.Omega.{arith}
+use lib.Dec.{lit<}
+use Rattle.word64.specs.Width.{W}
+use Rattle.rules.specs.declared.Order.{Order}
+use Rattle.rules.specs.Positions.{row, spliced}
+use Rattle.laws.proofs.Rows.Part.{none_put}
+use Rattle.copy64.proofs.last_piece.Goals as goal
+
+pub returns-then-n-eq0 : goal.returns-then-n-eq0
+returns-then-n-eq0 c =
+    let a = c.args in
+    none_put W (lit< tt) a.order a.words.now a.d (λ i. row W a.order a.source.now (a.s + i)) a.n c.if-n-eq0.true (λ k. (c.slice_known-1.given k).fits)
+
+pub returns-in-Lsb0 : goal.returns-in-Lsb0
+returns-in-Lsb0 c =
+    let a = c.args in
+    let z = c.requires.0 (omega arith) in
+    c.bits.ensures ∙ sym (ap₂ (λ (o : Order) (x : ℕ). spliced W o a.words.now x a.n (λ i. row W o a.source.now (a.s + i))) c.in-Lsb0.is (omega (arith, z)))
+
+pub returns-in-Msb0 : goal.returns-in-Msb0
+returns-in-Msb0 c =
+    let a = c.args in
+    let z = c.requires.0 (omega arith) in
+    c.bits-in-Msb0.ensures ∙ sym (ap₂ (λ (o : Order) (x : ℕ). spliced W o a.words.now x a.n (λ i. row W o a.source.now (a.s + i))) c.in-Msb0.is (omega (arith, z)))

@@ -1,0 +1,13 @@
+-- `equal64::differ_plain`: what was gathered is 0 exactly if the first i words agree.
+use mathlib.Core.Path.{◌≡◌, subst}
+use Prim.Native.Nat.{ℕ, ◌+◌, ◌-◌, ◌≤◌}
+use native.Mathlib.Omega.{arith}
+use lib.ListN.{get_or}
+use Rattle.laws.proofs.Words.Agree.{Differs, differs_none, differs_more}
+use Rattle.equal64.proofs.differ_plain.Given as goal
+
+abbrev pub invariant-loop-i : goal.invariant-loop-i
+invariant-loop-i l = (l.i ≤ l.n) × Differs l.v l.i (λ j. get_or l.left (l.a + j) 0) (λ j. get_or l.right (l.b + j) 0)
+
+abbrev pub decreases-loop-i : goal.decreases-loop-i
+decreases-loop-i l = l.n - l.i

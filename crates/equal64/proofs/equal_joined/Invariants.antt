@@ -1,0 +1,16 @@
+-- `equal64::equal_joined`: the first i words agree; a block that differs, or the last words, decide.
+use mathlib.Core.Path.{refl, ap}
+use Prim.Native.Nat.{ℕ, ◌+◌, ◌-◌, ◌≤◌}
+use native.Mathlib.Nat.{add_assoc}
+use native.Mathlib.Omega.{arith}
+use lib.ListN.{get_or}
+use Rattle.word64.specs.Width.{W}
+use Rattle.laws.proofs.Words.Funnel.{funneled}
+use Rattle.laws.proofs.Words.Agree.{Agree, agree_on, agree_off, tells_no, tells_zero, differs_on}
+use Rattle.equal64.proofs.equal_joined.Given as goal
+
+abbrev pub invariant-loop-i : goal.invariant-loop-i
+invariant-loop-i l = (l.i ≤ l.k) × Agree l.i (λ j. get_or l.left (l.a + j) 0) (λ j. funneled W l.order l.head.0 (get_or l.right (l.b + j) 0) (get_or l.right (l.b + j + 1) 0))
+
+abbrev pub decreases-loop-i : goal.decreases-loop-i
+decreases-loop-i l = l.k - l.i

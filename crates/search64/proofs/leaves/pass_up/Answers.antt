@@ -1,0 +1,23 @@
+-- `pass_up`: the words passed are f, and the block that stops it is not. Assumes nothing.
+use native.Mathlib.Omega.{arith}
+use Prim.Native.Nat.{◌+◌, ◌-◌, ◌≤◌}
+use Rattle.laws.proofs.Searches.Alike.{Alike, alike_none, alike_join, block_alike, block_other}
+use Rattle.search64.proofs.leaves.pass_up.Goals as goal
+
+pub loop-i-init : goal.loop-i-init
+loop-i-init c = (omega arith, omega arith, alike_none c.args.f c.args.words.now c.args.a)
+
+pub returns-then-gather-ne0 : goal.returns-then-gather-ne0
+returns-then-gather-ne0 c =
+    let a = c.args in
+    let i = c.loop-i.i in
+    (omega arith, omega arith, c.loop-i.invariant.2, λ fits. block_other a.f a.words.now i (i + a.size) (i + a.size - i) (omega arith) (omega arith) c.gather.ensures c.if-gather-ne0.true)
+
+pub loop-i-preserved : goal.loop-i-preserved
+loop-i-preserved c =
+    let a = c.args in
+    let i = c.loop-i.i in
+    (omega arith, omega arith, alike_join a.f a.words.now a.a i (i + a.size) c.loop-i.invariant.2 (block_alike a.f a.words.now i (i + a.size) (i + a.size - i) (omega arith) (omega arith) c.gather.ensures c.if-gather-ne0.false))
+
+pub returns : goal.returns
+returns c = (omega arith, omega arith, c.loop-i.invariant.2, λ fits. absurd (omega arith))

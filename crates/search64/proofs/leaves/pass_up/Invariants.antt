@@ -1,0 +1,11 @@
+-- `pass_up`: the words passed are f, and the block that stops it is not. Assumes nothing.
+use native.Mathlib.Omega.{arith}
+use Prim.Native.Nat.{◌+◌, ◌-◌, ◌≤◌}
+use Rattle.laws.proofs.Searches.Alike.{Alike, alike_none, alike_join, block_alike, block_other}
+use Rattle.search64.proofs.leaves.pass_up.Given as goal
+
+abbrev pub invariant-loop-i : goal.invariant-loop-i
+invariant-loop-i l = (l.a ≤ l.i) × (l.i ≤ l.e) × Alike l.f l.words l.a l.i
+
+abbrev pub decreases-loop-i : goal.decreases-loop-i
+decreases-loop-i l = l.e - l.i

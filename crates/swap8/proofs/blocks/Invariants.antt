@@ -1,0 +1,18 @@
+-- `swap8::blocks`: the first i bits are exchanged.
+use mathlib.Core.Path.{◌≡◌, refl, ap, ◌∙◌}
+use Prim.Native.Nat.{ℕ, ◌+◌, ◌-◌, ◌≤◌}
+use native.Mathlib.Omega.{arith}
+use lib.ListN.{length}
+use lib.Dec.{lit<}
+use Rattle.word8.specs.Width.{W}
+use Rattle.rules.specs.Positions.{row, spliced}
+use Rattle.laws.proofs.Rows.Part.{none_put}
+use Rattle.laws.proofs.Rows.Scratch.{step_swap}
+use Rattle.swap8.proofs.blocks.Given as goal
+
+abbrev pub invariant-loop-i : goal.invariant-loop-i
+invariant-loop-i l = (l.i ≤ l.len) × (length l.left ≡ length l.initial.left) × (length l.right ≡ length l.initial.right) × (length l.scratch ≡ length l.initial.scratch)
+    × (l.left ≡ spliced W l.order l.initial.left l.d l.i (λ j. row W l.order l.initial.right (l.s + j))) × (l.right ≡ spliced W l.order l.initial.right l.s l.i (λ j. row W l.order l.initial.left (l.d + j)))
+
+abbrev pub decreases-loop-i : goal.decreases-loop-i
+decreases-loop-i l = l.len - l.i
