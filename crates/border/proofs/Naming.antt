@@ -12,7 +12,7 @@ use Rattle.rules.specs.declared.NumberAnswer.{NumberAnswer}
 use Rattle.rules.specs.declared.NumberAnswer.TheVariants.{Is}
 use Rattle.rules.specs.Fields.{bits_of}
 use Rattle.rules.specs.Answers.{number_says}
-use Rattle.border.specs.Border.{order_of, significance_of, sign_of, number_of, bit_of, no_width_lem, none, Told}
+use Rattle.border.specs.Border.{order_of, significance_of, sign_of, number_of, bit_of, no_width, none, Told}
 
 module _ (code : ℕ) (some : code ≡ 0 → ⊥) where
   pub second_order : Msb0 ≡ order_of code
@@ -60,8 +60,8 @@ unfolding bits_of
 leaves_down e d = rw (e, d) (record { number = refl; value = refl })
 
 -- a width that is none
-pub no_width : (w : ℕ) (b : Bool) → (w ≡ 8 → ⊥) → (w ≡ 64 → ⊥) → (no_width_lem w || b) ≡ true
-no_width w b h l = rw (ne_eqb w 8 h, ne_eqb w 64 l)
+pub no_width_lem : (w : ℕ) (b : Bool) → (w ≡ 8 → ⊥) → (w ≡ 64 → ⊥) → (no_width w || b) ≡ true
+no_width_lem w b h l = rw (ne_eqb w 8 h, ne_eqb w 64 l)
 
 -- of several codes one is none, or none is
 pub first_none : (x : ℕ) (b : Bool) → 1 < x → (none x || b) ≡ true

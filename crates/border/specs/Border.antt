@@ -49,8 +49,8 @@ abbrev pub none : ℕ → Bool
 none code = ltb 1 code
 
 -- a width is 8 or 64
-abbrev pub no_width_lem : ℕ → Bool
-no_width_lem width = not (eqb width 8 || eqb width 64)
+abbrev pub no_width : ℕ → Bool
+no_width width = not (eqb width 8 || eqb width 64)
 
 -- an operation is 8, 14 or 6
 abbrev pub no_operation : ℕ → Bool

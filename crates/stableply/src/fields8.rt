@@ -11,8 +11,7 @@ use border::{
 use rules::{Verdict, Width};
 
 // One bit of a span, as 0 or 1.
-#[unsafe(no_mangle)]
-pub extern "C" fn stableply8_read_bit(
+pub fn stableply8_read_bit(
     words: &[u8],
     order: u8,
     word: usize,
@@ -32,8 +31,7 @@ pub extern "C" fn stableply8_read_bit(
 }
 
 // Sets one bit of a span to 0 or 1.
-#[unsafe(no_mangle)]
-pub extern "C" fn stableply8_write_bit(
+pub fn stableply8_write_bit(
     words: &mut [u8],
     order: u8,
     word: usize,
@@ -58,8 +56,7 @@ pub extern "C" fn stableply8_write_bit(
 }
 
 // The number that a field holds; a signed one in two's complement.
-#[unsafe(no_mangle)]
-pub extern "C" fn stableply8_load(
+pub fn stableply8_load(
     words: &[u8],
     order: u8,
     word: usize,
@@ -91,8 +88,7 @@ pub extern "C" fn stableply8_load(
 }
 
 // Places the low bits of a value in a field.
-#[unsafe(no_mangle)]
-pub extern "C" fn stableply8_store(
+pub fn stableply8_store(
     words: &mut [u8],
     order: u8,
     word: usize,
@@ -128,8 +124,7 @@ pub extern "C" fn stableply8_store(
 }
 
 // The same, but only for a value that fits. It stores by the call above, whose code is then in one place and whole.
-#[unsafe(no_mangle)]
-pub extern "C" fn stableply8_store_strict(
+pub fn stableply8_store_strict(
     words: &mut [u8],
     order: u8,
     word: usize,

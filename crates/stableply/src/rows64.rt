@@ -6,8 +6,7 @@ ghost use Rattle.border.specs.Border.{span_of, none, no_operation, behind, Told,
 use border::{NO_CODE, is_operation, leave_equal, leave_write, span_of};
 
 // Copies a span of another buffer, bit for bit.
-#[unsafe(no_mangle)]
-pub extern "C" fn stableply64_copy_from(
+pub fn stableply64_copy_from(
     words: &mut [u64],
     order: u8,
     word: usize,
@@ -35,8 +34,7 @@ pub extern "C" fn stableply64_copy_from(
 }
 
 // Copies bits of a span to another place in it, as if all were read first.
-#[unsafe(no_mangle)]
-pub extern "C" fn stableply64_copy_within(
+pub fn stableply64_copy_within(
     words: &mut [u64],
     order: u8,
     word: usize,
@@ -58,8 +56,7 @@ pub extern "C" fn stableply64_copy_within(
 }
 
 // Combines a span with a right side, into the span. The operation is its truth table's number: and 8, or 14, xor 6.
-#[unsafe(no_mangle)]
-pub extern "C" fn stableply64_boolean(
+pub fn stableply64_boolean(
     words: &mut [u64],
     order: u8,
     word: usize,
@@ -92,8 +89,7 @@ pub extern "C" fn stableply64_boolean(
 }
 
 // Exchanges two spans of two buffers.
-#[unsafe(no_mangle)]
-pub extern "C" fn stableply64_swap(
+pub fn stableply64_swap(
     left: &mut [u64],
     order: u8,
     word: usize,
@@ -122,8 +118,7 @@ pub extern "C" fn stableply64_swap(
 }
 
 // Whether two spans have the same length and bits, as 1 or 0.
-#[unsafe(no_mangle)]
-pub extern "C" fn stableply64_equal(
+pub fn stableply64_equal(
     left: &[u64],
     order: u8,
     word: usize,

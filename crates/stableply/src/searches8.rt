@@ -5,8 +5,7 @@ ghost use Rattle.border.specs.Border.{span_of, none, behind, Found};
 use border::{NO_CODE, leave_found, span_of};
 
 // The smallest index of a one, counted from the span's start, or absent.
-#[unsafe(no_mangle)]
-pub extern "C" fn stableply8_first_one(
+pub fn stableply8_first_one(
     words: &[u8],
     order: u8,
     word: usize,
@@ -26,8 +25,7 @@ pub extern "C" fn stableply8_first_one(
 }
 
 // The largest index of a one.
-#[unsafe(no_mangle)]
-pub extern "C" fn stableply8_last_one(
+pub fn stableply8_last_one(
     words: &[u8],
     order: u8,
     word: usize,
@@ -47,8 +45,7 @@ pub extern "C" fn stableply8_last_one(
 }
 
 // The smallest index of a zero.
-#[unsafe(no_mangle)]
-pub extern "C" fn stableply8_first_zero(
+pub fn stableply8_first_zero(
     words: &[u8],
     order: u8,
     word: usize,
@@ -68,8 +65,7 @@ pub extern "C" fn stableply8_first_zero(
 }
 
 // The largest index of a zero.
-#[unsafe(no_mangle)]
-pub extern "C" fn stableply8_last_zero(
+pub fn stableply8_last_zero(
     words: &[u8],
     order: u8,
     word: usize,

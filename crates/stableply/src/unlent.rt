@@ -8,8 +8,7 @@ use border::{NO_CODE, leave_mask, leave_position, leave_rest, leave_selector, or
 use rules::{End, Index, Width};
 
 // The real position of an index in a word of 8 or 64 bits.
-#[unsafe(no_mangle)]
-pub extern "C" fn stableply_position(width: u8, order: u8, index: usize, out: &mut u64) -> u8
+pub fn stableply_position(width: u8, order: u8, index: usize, out: &mut u64) -> u8
     ensures { Told (behind (no_width width || none order) (position_answer width (order_of order) index)) out.old result out.new }
 {
     if width == 8 {
@@ -22,8 +21,7 @@ pub extern "C" fn stableply_position(width: u8, order: u8, index: usize, out: &m
 }
 
 // The selector of an index in a word of 8 or 64 bits: 2 to its position.
-#[unsafe(no_mangle)]
-pub extern "C" fn stableply_selector(width: u8, order: u8, index: usize, out: &mut u64) -> u8
+pub fn stableply_selector(width: u8, order: u8, index: usize, out: &mut u64) -> u8
     ensures { Told (behind (no_width width || none order) (selector_answer width (order_of order) index)) out.old result out.new }
 {
     if width == 8 {
@@ -36,14 +34,7 @@ pub extern "C" fn stableply_selector(width: u8, order: u8, index: usize, out: &m
 }
 
 // The mask of the indexes of a word of 8 or 64 bits from `from` up to but without `upto`.
-#[unsafe(no_mangle)]
-pub extern "C" fn stableply_mask(
-    width: u8,
-    order: u8,
-    from: usize,
-    upto: usize,
-    out: &mut u64,
-) -> u8
+pub fn stableply_mask(width: u8, order: u8, from: usize, upto: usize, out: &mut u64) -> u8
     ensures { Told (behind (no_width width || none order) (mask_answer width (order_of order) from upto)) out.old result out.new }
 {
     if width == 8 {
@@ -56,8 +47,7 @@ pub extern "C" fn stableply_mask(
 }
 
 // The rest of a span of words of 8 or 64 bits after its first `place` bits. The first half is the span itself with the length `place`.
-#[unsafe(no_mangle)]
-pub extern "C" fn stableply_split(
+pub fn stableply_split(
     width: u8,
     lent: usize,
     order: u8,
