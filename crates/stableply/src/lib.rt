@@ -1,5 +1,6 @@
-// The exported calls: what C, Rust and every other language link. Each returns 0 where the request is accepted, else the number of refusal,
-// or 255 where an argument is no code of this interface. What a pointer points to is written only where the call returns 0.
+// The calls as other languages make them, by numbers and codes: each returns 0 where the request is accepted, else the number of refusal, or 255
+// where an argument is no code of this interface. What a reference leads to is written only where the call returns 0. The crate `stableply_c`
+// exports them.
 #![tactic(auto)]
 
 pub mod fields64;

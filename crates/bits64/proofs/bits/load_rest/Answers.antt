@@ -16,12 +16,12 @@ returns-then-last-eq0 c = let a = c.args in
 
 pub join-requires : goal.join-requires
 join-requires c = let a = c.args in (
-      omega arith,
-      omega arith,
-      omega arith,
-      (load_fits W (lit< tt) a.order a.significance a.words.now (a.start * W) (a.whole * W) (c.load_middle-a.ensures a.order)).1,
-      c.piece_at-b.ensures.1,
-    )
+  omega arith,
+  omega arith,
+  omega arith,
+  (load_fits W (lit< tt) a.order a.significance a.words.now (a.start * W) (a.whole * W) (c.load_middle-a.ensures a.order)).1,
+  c.piece_at-b.ensures.1,
+)
 
 pub returns : goal.returns
 returns c = let a = c.args in

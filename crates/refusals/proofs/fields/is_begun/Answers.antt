@@ -19,8 +19,7 @@ returns-then-k-len c = (λ e. absurd (false≢true e), λ _ b. omega (arith, b.f
 
 pub returns : goal.returns
 returns c =
-    let s = c.is_size.ensures in
-    (
+    let s = c.is_size.ensures in (
       λ e. record {
         few = c.if-lent-gt-MOST_WORDS.false;
         first = omega arith;
