@@ -1,4 +1,4 @@
-//! Links the archive that a crate's `links` names from the project's target/staticlib, where `rt staticlib` puts it, or from
+//! Links the archive that a crate's `links` names from the project's target/staticlib, where `tools/archive` puts it, or from
 //! the folder that STABLEPLY_LIB_DIR names (seen from compare/, where it is relative).
 
 use std::{env, path::Path};
@@ -11,7 +11,7 @@ fn main() {
     let folder = compare.join(env::var_os("STABLEPLY_LIB_DIR").unwrap_or("../target/staticlib".into()));
     let archive = folder.join(format!("lib{name}.a"));
     let there = archive.display();
-    assert!(archive.is_file(), "there is no {there}: make it by `rt staticlib {name}`, or set STABLEPLY_LIB_DIR");
+    assert!(archive.is_file(), "there is no {there}: make it by `tools/archive {name}`, or set STABLEPLY_LIB_DIR");
     println!("cargo:rerun-if-changed={there}");
     println!("cargo:rustc-link-search=native={}", folder.display());
     println!("cargo:rustc-link-lib=static={name}");

@@ -39,7 +39,7 @@ fn archive_folder() -> Result<PathBuf, String> {
     let target = format!("{} {}", target_part("ARCH"), target_part("OS"));
     if target != "x86_64 linux" {
         return Err(format!(
-            "`rt staticlib` writes {ARCHIVE} for x86_64 linux, and this build is for {target}. Set {FOLDER_VARIABLE} to a folder with one for it."
+            "`tools/archive` writes {ARCHIVE} for x86_64 linux, and this build is for {target}. Set {FOLDER_VARIABLE} to a folder with one for it."
         ));
     }
     if !folder.join(ARCHIVE).is_file() {
@@ -66,32 +66,35 @@ fn named_folder(named: OsString) -> Result<PathBuf, String> {
     }
 }
 
-/// Has the prover's command `rt` prove the library and write the archive. What `rt` prints is kept from cargo, which would
+/// Has the project's `tools/archive` prove the library and write the archive. What it prints is kept from cargo, which would
 /// read it as its own, and shown where it failed.
 fn make(root: &Path, folder: &Path) -> Result<(), String> {
     let advice = format!(
-        "Run `rt staticlib stableply` in {}, or set {FOLDER_VARIABLE} to the folder that holds {ARCHIVE}.",
+        "Run `tools/archive` in {}, or set {FOLDER_VARIABLE} to the folder that holds {ARCHIVE}.",
         root.display()
     );
     let missing = format!("there is no {ARCHIVE} in {}", folder.display());
-    if !root.join("crates.txt").is_file() {
+    let script = root.join("tools").join("archive");
+    if !script.is_file() {
         return Err(format!(
             "{missing}, and {} is not the project's root, where it could be made. Set {FOLDER_VARIABLE} to the folder that holds {ARCHIVE}.",
             root.display()
         ));
     }
-    let run = Command::new("rt").args(["staticlib", "stableply"]).current_dir(root).output();
-    let printed = match run {
+    if let Err(error) = Command::new("rt").arg("version").output() {
+        return Err(match error.kind() {
+            ErrorKind::NotFound => format!("{missing}, and the command `rt`, which makes it, is not on the PATH. {advice}"),
+            _ => format!("{missing}, and `rt` could not be run ({error}). {advice}"),
+        });
+    }
+    let printed = match Command::new(script).current_dir(root).output() {
         Ok(printed) => printed,
-        Err(error) if error.kind() == ErrorKind::NotFound => {
-            return Err(format!("{missing}, and the command `rt`, which makes it, is not on the PATH. {advice}"));
-        }
-        Err(error) => return Err(format!("{missing}, and `rt` could not be run ({error}). {advice}")),
+        Err(error) => return Err(format!("{missing}, and `tools/archive` could not be run ({error}). {advice}")),
     };
     if printed.status.success() && folder.join(ARCHIVE).is_file() {
         return Ok(());
     }
     eprint!("{}", String::from_utf8_lossy(&printed.stdout));
     eprint!("{}", String::from_utf8_lossy(&printed.stderr));
-    Err(format!("{missing}, and `rt staticlib stableply` did not make it (what it printed is above). {advice}"))
+    Err(format!("{missing}, and `tools/archive` did not make it (what it printed is above). {advice}"))
 }

@@ -7,7 +7,7 @@ root=$(cd "$(dirname "$0")/.." && pwd)
 . "$root/tests/machine.sh"
 folder=${1:-${STABLEPLY_LIB_DIR:-$root/target/staticlib}}
 if [ ! -f "$folder/libstableply.a" ]; then
-    echo "$0: there is no libstableply.a in $folder: run 'rt staticlib stableply' in the project's root, or name its folder" >&2
+    echo "$0: there is no libstableply.a in $folder: run tools/archive in the project's root, or name its folder" >&2
     exit 2
 fi
 folder=$(cd "$folder" && pwd)

@@ -31,11 +31,12 @@ try_pages rust page_runs
 # project NAME: a clean checkout with nothing built, in which a command `rt` is found only if the case puts it there.
 project() {
     project=$work/$1
-    mkdir -p "$project/bin" "$project/target"
+    mkdir -p "$project/bin" "$project/target" "$project/tools" "$project/crates/stableply_c"
+    cp "$root/tools/archive" "$project/tools/"
     for command in cargo rustc rustdoc; do
         ln -s "$(command -v "$command")" "$project/bin/$command"
     done
-    echo 'stableply' >"$project/crates.txt"
+    echo 'stableply_c staticlib:' >"$project/crates.txt"
     (cd "$root" && tar -cf - --exclude=rust/target rust compare/model) | tar -xf - -C "$project"
 }
 # built: builds the case's crate; what it says is left in a file.
@@ -53,12 +54,12 @@ rt_does() {
     printf '#!/bin/sh\necho "$@ in $(pwd -P)" >"%s/asked"\n%s\n' "$project" "$1" >"$project/bin/rt"
     chmod +x "$project/bin/rt"
 }
-makes_it() { built && grep -Fx "staticlib stableply in $(cd "$project" && pwd -P)" "$project/asked"; }
+makes_it() { built && grep -Fx "lib in $(cd "$project/crates/stableply_c" && pwd -P)" "$project/asked"; }
 links_named_folder() { STABLEPLY_LIB_DIR=$folder built; }
 refuses_named_folder() { STABLEPLY_LIB_DIR=$project refused "STABLEPLY_LIB_DIR names $project, and there is no libstableply.a in it."; }
 
 project no-archive-no-rt
-try 'without the archive and rt, says what to run' refused "Run \`rt staticlib stableply\` in $project, or set STABLEPLY_LIB_DIR"
+try 'without the archive and rt, says what to run' refused "Run \`tools/archive\` in $project, or set STABLEPLY_LIB_DIR"
 try 'finds the archive in the folder named' links_named_folder
 try 'says so where the folder named has none' refuses_named_folder
 
@@ -70,16 +71,16 @@ try 'finds the archive in target/staticlib, and asks rt for nothing' built
 try 'rt was not asked' test ! -e "$project/asked"
 
 project rt-makes-it
-rt_does "mkdir -p target/staticlib && cp '$folder/libstableply.a' target/staticlib/"
+rt_does "mkdir -p out && cp '$folder/libstableply.a' out/libstableply_c.a"
 try 'has rt make the archive' makes_it
 
 project rt-fails
 rt_does 'echo "rt: stableply is not proved"; exit 1'
 try 'shows what rt printed where it failed' refused 'rt: stableply is not proved'
-try 'says what to run where rt failed' refused "\`rt staticlib stableply\` did not make it"
+try 'says what to run where rt failed' refused "\`tools/archive\` did not make it"
 
 project not-the-root
-rm "$project/crates.txt"
+rm "$project/tools/archive"
 rt_does 'exit 0'
 try 'outside the project, asks for the folder' refused "is not the project's root, where it could be made. Set STABLEPLY_LIB_DIR"
 

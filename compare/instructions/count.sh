@@ -1,7 +1,7 @@
 #!/usr/bin/env bash
 # How many instructions an exported call takes, of fields and of bits and rows, by callgrind, or on another machine than x86-64 by the emulator:
 # the same on every run, whatever else the machine does. Wants valgrind or qemu-x86_64, a C compiler for x86-64, and the library that
-# `rt staticlib stableply` makes.
+# `tools/archive` makes.
 #
 #     compare/instructions/count.sh [FOLDER]     FOLDER holds libstableply.a; target/staticlib unless said otherwise
 set -eu
