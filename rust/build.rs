@@ -69,10 +69,8 @@ fn named_folder(named: OsString) -> Result<PathBuf, String> {
 /// Has the project's `tools/archive` prove the library and write the archive. What it prints is kept from cargo, which would
 /// read it as its own, and shown where it failed.
 fn make(root: &Path, folder: &Path) -> Result<(), String> {
-    let advice = format!(
-        "Run `tools/archive` in {}, or set {FOLDER_VARIABLE} to the folder that holds {ARCHIVE}.",
-        root.display()
-    );
+    let advice =
+        format!("Run `tools/archive` in {}, or set {FOLDER_VARIABLE} to the folder that holds {ARCHIVE}.", root.display());
     let missing = format!("there is no {ARCHIVE} in {}", folder.display());
     let script = root.join("tools").join("archive");
     if !script.is_file() {
