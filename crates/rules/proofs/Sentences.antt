@@ -6,3 +6,4 @@ pub mod RowSentences
 pub mod SearchSentences
 pub mod Unread
 pub mod Operations
+pub mod SampleRows
