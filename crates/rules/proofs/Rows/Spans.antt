@@ -40,7 +40,7 @@ pub in_bounds_lem : (W n : ℕ) (s : Span) → in_bounds W n s ≡ true → star
 unfolding in_bounds start
 in_bounds_lem W n s e = leb-true (s.word * W + s.head.0 + s.len) (n * W) e
 
--- both halves of an in_bounds span are in bounds, and the rest has a head below W
+-- both halves of an in-bounds span are in bounds, and the rest has a head below W
 pub split_in_bounds : (W : ℕ) → 0 < W → (n : ℕ) (s : Span) (p : ℕ) → in_bounds W n s ≡ true → p ≤ s.len
     → (in_bounds W n (first_half s p) ≡ true) × (in_bounds W n (second_half W s p) ≡ true) × ((second_half W s p).head.0 < W)
 unfolding in_bounds
