@@ -1,6 +1,9 @@
-// The file: how it begins, and its records one after another.
+// The file: how it begins, and its records one after another. A read that fails counts as the file's end.
+ghost use Rattle.std.specs.Prelude.{◌≤◌, length};
+
 use crate::numbers::{NUMBER_BYTES, number_at};
 use crate::parts::{FRONT_BYTES, length_of};
+use std::io::Read;
 
 // The number that reads as the label STPLVEC1.
 const LABEL: u64 = 0x3143_4556_4c50_5453;
@@ -31,9 +34,9 @@ pub enum Next {
 }
 
 // Reads the file's head.
-pub fn begin(file: i32) -> Start {
+pub fn begin(file: &mut impl Read) -> Start {
     let mut bytes = [0u8; HEAD_BYTES];
-    if io::read_full(file, &mut bytes) < HEAD_BYTES {
+    if read_full(file, &mut bytes) < HEAD_BYTES {
         return Start::Short;
     }
     if number_at(&bytes, 0) != LABEL {
@@ -43,7 +46,7 @@ pub fn begin(file: i32) -> Start {
 }
 
 // Reads the next record into a buffer. Only after `Whole` is it there.
-pub fn take(file: i32, record: &mut [u8]) -> Next {
+pub fn take(file: &mut impl Read, record: &mut [u8]) -> Next {
     if !is_front_read(file, record) {
         return Next::Short;
     }
@@ -58,23 +61,45 @@ pub fn take(file: i32, record: &mut [u8]) -> Next {
 }
 
 // Whether the file ends here.
-pub fn is_over(file: i32) -> bool {
+pub fn is_over(file: &mut impl Read) -> bool {
     let mut more = [0u8; 1];
-    io::read_full(file, &mut more) == 0
+    read_full(file, &mut more) == 0
 }
 
 // Reads the first bytes of a record, which tell its length; false where they are not all there.
-fn is_front_read(file: i32, record: &mut [u8]) -> bool {
+fn is_front_read(file: &mut impl Read, record: &mut [u8]) -> bool {
     if record.len() < FRONT_BYTES {
         return false;
     }
-    io::read_full(file, &mut record[0..FRONT_BYTES]) == FRONT_BYTES
+    read_full(file, &mut record[0..FRONT_BYTES]) == FRONT_BYTES
 }
 
 // Reads the bytes after those up to the record's length; false where they are not all there.
-fn is_rest_read(file: i32, record: &mut [u8], length: usize) -> bool {
+fn is_rest_read(file: &mut impl Read, record: &mut [u8], length: usize) -> bool {
     if length < FRONT_BYTES || record.len() < length {
         return false;
     }
-    io::read_full(file, &mut record[FRONT_BYTES..length]) == length - FRONT_BYTES
+    read_full(file, &mut record[FRONT_BYTES..length]) == length - FRONT_BYTES
+}
+
+// Reads until a buffer is full, the file ends or a read fails, and gives how many bytes it has put at the front of the buffer.
+fn read_full(file: &mut impl Read, bytes: &mut [u8]) -> usize
+    ensures { result ≤ length bytes.new }
+{
+    let mut done = 0;
+    while done < bytes.len() {
+        let more = read_some(file, &mut bytes[done..]);
+        if more == 0 {
+            break;
+        }
+        done += more;
+    }
+    done
+}
+
+// Reads once, and gives how many bytes that put at the front of the buffer: 0 at the file's end, or where the read fails.
+fn read_some(file: &mut impl Read, bytes: &mut [u8]) -> usize
+    ensures { result ≤ length bytes.new }
+{
+    file.read(bytes).unwrap_or(0)
 }

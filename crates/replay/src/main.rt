@@ -13,43 +13,60 @@ use crate::tally::COUNTS;
 use records::form::MOST_LENT;
 use records::input;
 use records::input::Start;
+use std::io::Read;
+use std::rt::{Env, Files};
+use std::{fs, io};
 
-// Opens the file that the first argument names and replays it, or says why it cannot.
-fn main() {
-    let mut path = io::buffer();
-    let length = os::arg(1, &mut path);
-    if os::errno() != 0 || length == 0 {
-        show::text(b"usage: replay FILE\n");
-        return;
+// How many bytes there is room for in the file's name. The system opens none by a longer name.
+const NAME_BYTES: usize = 4096;
+
+// Replays the file that the first argument names.
+fn main(rt: HostRuntime) -> io::Result<()> {
+    let mut name = [0u8; NAME_BYTES];
+    match rt.arg(1, &mut name) {
+        Ok(length) if length > 0 => replay_named(&rt, &name[..length]),
+        _ => show::text(&rt, b"usage: replay FILE\n"),
     }
-    let file = os::open_read(&path[..length]);
-    if file < 0 {
-        show::text(b"the file cannot be opened: ");
-        show::text(&path[..length]);
-        show::end();
-        return;
+}
+
+// Opens the file of that name and replays it, or says that it cannot be opened.
+fn replay_named<R: Files + Print>(rt: &R, name: &[u8]) -> io::Result<()> {
+    match opened(rt, name) {
+        Some(mut file) => replay_file(rt, &mut file),
+        None => {
+            show::text(rt, b"the file cannot be opened: ")?;
+            show::text(rt, name)?;
+            show::end(rt)
+        }
     }
-    replay_file(file);
-    libc::close(file);
+}
+
+// The file of that name, to be read, if it can be opened. A name is text.
+fn opened<R: Files>(rt: &R, name: &[u8]) -> Option<R::File> {
+    match str::from_utf8(name) {
+        Ok(text) => fs::open(rt, text).ok(),
+        Err(_) => None,
+    }
 }
 
 // Replays an open file, or says what it is instead of one of records.
-fn replay_file(file: i32) {
+fn replay_file(rt: &impl Print, file: &mut impl Read) -> io::Result<()> {
     match input::begin(file) {
-        Start::Records(records) => replay_records(file, records),
-        Start::Short => show::text(b"the file has no 16 bytes, or cannot be read\n"),
-        Start::Foreign => show::text(b"the file does not begin with STPLVEC1\n"),
+        Start::Records(records) => replay_records(rt, file, records),
+        Start::Short => show::text(rt, b"the file has no 16 bytes, or cannot be read\n"),
+        Start::Foreign => show::text(rt, b"the file does not begin with STPLVEC1\n"),
     }
 }
 
 // Replays the records that the file announces, and prints the counts.
-fn replay_records(file: i32, records: u64) {
+fn replay_records(rt: &impl Print, file: &mut impl Read, records: u64) -> io::Result<()> {
     let mut first64 = [0u64; MOST_LENT];
     let mut second64 = [0u64; MOST_LENT];
     let mut first8 = [0u8; MOST_LENT];
     let mut second8 = [0u8; MOST_LENT];
     let mut counts = [0u64; COUNTS];
     let done = replaying::are_replayed(
+        rt,
         file,
         records,
         &mut first64,
@@ -57,22 +74,21 @@ fn replay_records(file: i32, records: u64) {
         &mut first8,
         &mut second8,
         &mut counts,
-    );
+    )?;
     let over = input::is_over(file);
     if done && !over {
-        show::text(b"bytes follow the last record\n");
+        show::text(rt, b"bytes follow the last record\n")?;
     }
-    tally::print(&counts);
-    conclude(done && over, tally::disagreements(&counts));
+    tally::print(rt, &counts)?;
+    conclude(rt, done && over, tally::disagreements(&counts))
 }
 
 // Prints the last line: whether the whole file was replayed, and how many records disagree.
-fn conclude(done: bool, disagreements: u64) {
+fn conclude(rt: &impl Print, done: bool, disagreements: u64) -> io::Result<()> {
     if !done {
-        show::text(b"not replayed to the end\n");
-        return;
+        return show::text(rt, b"not replayed to the end\n");
     }
-    show::text(b"replayed to the end, ");
-    show::decimal(disagreements);
-    show::text(b" disagree\n");
+    show::text(rt, b"replayed to the end, ")?;
+    show::decimal(rt, disagreements)?;
+    show::text(rt, b" disagree\n")
 }

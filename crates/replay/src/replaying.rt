@@ -7,49 +7,54 @@ use records::input::{LONGEST, Next};
 use records::parts::{call_of, whose, width_of};
 use records::seen::Seen;
 use records::{form, input, seen};
+use std::io;
+use std::io::Read;
 
 // Replays so many records of a file, numbered from 1, and counts them; false where one cannot be replayed. The buffers are room for the
 // words of either width that a record lends.
 pub fn are_replayed(
-    file: i32,
+    rt: &impl Print,
+    file: &mut impl Read,
     records: u64,
     first64: &mut [u64; MOST_LENT],
     second64: &mut [u64; MOST_LENT],
     first8: &mut [u8; MOST_LENT],
     second8: &mut [u8; MOST_LENT],
     counts: &mut [u64; COUNTS],
-) -> bool {
-    let mut number = 0;
-    while number < records {
-        number += 1;
-        if !is_next_replayed(file, number, first64, second64, first8, second8, counts) {
-            return false;
+) -> io::Result<bool> {
+    for number in 1..=records {
+        if !is_next_replayed(rt, file, number, first64, second64, first8, second8, counts)? {
+            return Ok(false);
         }
     }
-    true
+    Ok(true)
 }
 
 // Reads the next record and replays it; false where it cannot be read or is malformed, which is then said.
 fn is_next_replayed(
-    file: i32,
+    rt: &impl Print,
+    file: &mut impl Read,
     number: u64,
     first64: &mut [u64; MOST_LENT],
     second64: &mut [u64; MOST_LENT],
     first8: &mut [u8; MOST_LENT],
     second8: &mut [u8; MOST_LENT],
     counts: &mut [u64; COUNTS],
-) -> bool {
+) -> io::Result<bool> {
     let mut record = [0u8; LONGEST];
     let next = input::take(file, &mut record);
     if let Next::Whole = next {
-        return is_replayed(number, &record, first64, second64, first8, second8, counts);
+        return is_replayed(
+            rt, number, &record, first64, second64, first8, second8, counts,
+        );
     }
-    faults::unread(number, next);
-    false
+    faults::unread(rt, number, next)?;
+    Ok(false)
 }
 
 // Replays a record; false where it is malformed, which is then said.
 fn is_replayed(
+    rt: &impl Print,
     number: u64,
     record: &[u8],
     first64: &mut [u64; MOST_LENT],
@@ -57,15 +62,15 @@ fn is_replayed(
     first8: &mut [u8; MOST_LENT],
     second8: &mut [u8; MOST_LENT],
     counts: &mut [u64; COUNTS],
-) -> bool {
+) -> io::Result<bool> {
     let fault = form::fault_of(record);
     if let Fault::Nothing = fault {
         let seen = made(record, first64, second64, first8, second8);
-        judge(number, record, seen, counts);
-        return true;
+        judge(rt, number, record, seen, counts)?;
+        return Ok(true);
     }
-    faults::malformed(number, fault);
-    false
+    faults::malformed(rt, number, fault)?;
+    Ok(false)
 }
 
 // Makes the call of a well-formed record, and gives what is seen after it.
@@ -86,10 +91,17 @@ fn made(
 }
 
 // Holds what was seen to the record, tells of the first disagreement, and counts.
-fn judge(number: u64, record: &[u8], seen: Seen, counts: &mut [u64; COUNTS]) {
+fn judge(
+    rt: &impl Print,
+    number: u64,
+    record: &[u8],
+    seen: Seen,
+    counts: &mut [u64; COUNTS],
+) -> io::Result<()> {
     let agrees = seen::agrees(record, seen);
     if !agrees && tally::disagreements(counts) == 0 {
-        telling::disagreement(number, record, seen);
+        telling::disagreement(rt, number, record, seen)?;
     }
     tally::add(counts, call_of(record), whose(record), agrees);
+    Ok(())
 }

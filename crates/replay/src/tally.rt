@@ -2,6 +2,7 @@
 use crate::telling;
 use records::calls::CALLS;
 use records::parts::BITVECS;
+use std::io;
 
 // The column of a row that counts its records.
 const REPLAYED: usize = 0;
@@ -36,29 +37,28 @@ pub fn disagreements(counts: &[u64; COUNTS]) -> u64 {
 }
 
 // Prints a line for each call, and one for all.
-pub fn print(counts: &[u64; COUNTS]) {
-    let mut call: u8 = 0;
-    while call < CALLS {
-        telling::name(call);
-        print_row(counts, call as usize);
-        call += 1;
+pub fn print(rt: &impl Print, counts: &[u64; COUNTS]) -> io::Result<()> {
+    for call in 0..CALLS {
+        telling::name(rt, call)?;
+        print_row(rt, counts, call as usize)?;
     }
-    show::text(b"all          | ");
-    print_row(counts, ALL);
+    show::text(rt, b"all          | ")?;
+    print_row(rt, counts, ALL)
 }
 
 // Prints the counts of a row.
-fn print_row(counts: &[u64; COUNTS], row: usize) {
+fn print_row(rt: &impl Print, counts: &[u64; COUNTS], row: usize) -> io::Result<()> {
     if ALL < row {
-        return;
+        return Ok(());
     }
     let at = COLUMNS * row;
     telling::counts(
+        rt,
         counts[at + REPLAYED],
         counts[at + OF_BITVEC],
         counts[at + OF_MODEL],
         counts[at + DISAGREE],
-    );
+    )
 }
 
 // Counts a record in a row.

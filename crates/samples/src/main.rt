@@ -7,12 +7,14 @@ mod numbers;
 mod positions;
 mod rows;
 
+use std::io;
+
 // Prints the tables one after another.
-fn main() {
-    positions::run();
-    fields::run();
-    rows::run();
-    show::end();
-    limits::run();
-    numbers::run();
+fn main(rt: HostRuntime) -> io::Result<()> {
+    positions::run(&rt)?;
+    fields::run(&rt)?;
+    rows::run(&rt)?;
+    show::end(&rt)?;
+    limits::run(&rt)?;
+    numbers::run(&rt)
 }
