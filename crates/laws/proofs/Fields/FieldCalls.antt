@@ -2,17 +2,17 @@
 use mathlib.Core.Path.{◌≡◌, refl, sym, ap, ◌∙◌}
 use mathlib.Core.Bool.{true, false, not}
 use mathlib.Core.List.{List, [], ◌∷◌, ◌++◌}
-use Prim.Native.Nat.{ℕ, ◌+◌, ◌*◌, ◌%◌, ◌^◌, ◌≤◌, ◌<◌}
+use Prim.Native.Nat.{ℕ, ◌%◌, ◌^◌, ◌≤◌, ◌<◌}
 use lib.ListN.{length}
 use lib.IntN.{ℤ}
-use Rattle.laws.specs.Types.{Span, Significance, Sign, Number, Refusal, Verdict, Fine, Refused, NumberAnswer, Number-as-Is, Number-as-Refused, WriteAnswer, Done, Write-as-Refused, NotAnInteger, DoesNotFit}
+use Rattle.laws.specs.Types.{Span, Significance, Sign, Number, Refusal, Verdict, Fine, Refused, Number-as-Is, Number-as-Refused, Done, Write-as-Refused, NotAnInteger, DoesNotFit}
 use Rattle.rules.specs.Positions.{start}
 use Rattle.rules.specs.Fields.{load_of, store_of, read_as, whole, bits_of, is_integer, fits}
-use Rattle.rules.specs.Refusals.{Case, number, verdict, ◌when◌, span_cases, field_cases, value_cases, fitting_cases, load_cases, store_cases, store_strict_cases}
+use Rattle.rules.specs.Refusals.{Case, verdict, ◌when◌, span_cases, field_cases, value_cases, fitting_cases, load_cases, store_cases, store_strict_cases}
 use Rattle.rules.specs.Calls.{load, store, store_strict, cases, answer!, after!, answer, after, a_number}
 use Rattle.rules.specs.Answers.{number_says, write_says, Gives}
 use Rattle.rules.proofs.Fields.Field.{store_alike}
-use Rattle.rules.proofs.Refusals.Tables.{and_then, verdict_append, stops, goes, fine_parts}
+use Rattle.rules.proofs.Refusals.Tables.{and_then, verdict_append, goes, fine_parts}
 use Rattle.rules.proofs.Sentences.Sentences.{refused_call, accepted_call}
 
 -- ---- load

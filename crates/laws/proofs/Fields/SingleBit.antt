@@ -1,5 +1,5 @@
 -- The single-bit calls: what an accepted one means, and its answer and memory from what code reads and writes. Assumes nothing.
-use Prim.Native.Nat.{ℕ, ◌+◌, ◌-◌, ◌*◌, ◌/◌, ◌%◌, ◌<◌}
+use Prim.Native.Nat.{ℕ, ◌+◌, ◌*◌, ◌/◌, ◌%◌, ◌<◌}
 use mathlib.Core.Path.{◌≡◌, refl, sym, ◌∙◌, ap}
 use mathlib.Core.Bool.{Bool, true, false}
 use mathlib.Core.List.{List}
@@ -10,7 +10,7 @@ use Rattle.laws.specs.Types.{Span, Refusal, Fine, Refused, Done, Write-as-Refuse
 use Rattle.rules.specs.Bits.{bit_n}
 use Rattle.rules.specs.Positions.{start, spliced}
 use Rattle.rules.specs.Refusals.{number, verdict, bit_cases}
-use Rattle.rules.specs.Calls.{refused, digit, read_bit, write_bit, cases, answer!, after!, answer, after}
+use Rattle.rules.specs.Calls.{refused, digit, read_bit, write_bit, cases, answer!, after!, answer}
 use Rattle.rules.specs.Answers.{write_says, Gives}
 use lib.Arith.{lt-one}
 use Rattle.rules.specs.Fields.{exponent, store_of}

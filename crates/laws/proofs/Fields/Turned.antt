@@ -1,7 +1,7 @@
 -- Whole words of a number in the other sequence: what a le load of 2 ^ n words gives, turned, is what a be load of them gives. Assumes nothing.
 use mathlib.Core.Path.{◌≡◌, sym, ap, ap₂, ◌∙◌}
 use mathlib.Core.List.{List}
-use Prim.Native.Nat.{ℕ, zero, suc, ◌+◌, ◌-◌, ◌*◌, ◌/◌, ◌%◌, ◌^◌, ◌≤◌, ◌<◌}
+use Prim.Native.Nat.{ℕ, zero, suc, ◌+◌, ◌-◌, ◌*◌, ◌/◌, ◌%◌, ◌^◌, ◌<◌}
 use native.Mathlib.Nat.{add-zero, add-mul, mul_comm, mul_assoc, mul-one, pow-suc}
 use native.Mathlib.Omega.{arith}
 use lib.Arith.{digits_div, digits_mod}

@@ -6,7 +6,7 @@ use mathlib.Core.List.{List}
 use lib.ListN.{length}
 use Rattle.laws.specs.Types.{Span, Significance, Sign, Verdict, Fine, Refused}
 use Rattle.rules.specs.Refusals.{verdict}
-use Rattle.rules.specs.Calls.{Side, here, there, unless, Call, read_bit, load, equal, find_first, find_last, cases, answer!, after!, answer, after}
+use Rattle.rules.specs.Calls.{Side, here, there, unless, read_bit, load, equal, find_first, find_last, cases, answer!, after!, answer, after}
 
 kept : (v : Verdict) (ws : List ℕ) → unless v ws ws ≡ ws
 kept Fine ws = refl

@@ -1,5 +1,5 @@
 -- The calls on rows: answer and memory from a verdict and from the row that code leaves. Assumes nothing.
-use Prim.Native.Nat.{ℕ, ◌+◌, ◌-◌, ◌*◌, ◌≤◌, ◌<◌}
+use Prim.Native.Nat.{ℕ, ◌+◌, ◌*◌, ◌≤◌, ◌<◌}
 use mathlib.Core.Path.{◌≡◌, refl, sym, ◌∙◌, ap, ap₂}
 use mathlib.Core.Bool.{Bool, ◌&&◌, cond}
 use mathlib.Core.List.{List}
@@ -11,7 +11,7 @@ use Rattle.laws.specs.Types.{Order, Span, Refusal, Fine, Refused, Done, Write-as
 use Rattle.rules.specs.Positions.{row, start, span_bit, spliced}
 use Rattle.rules.specs.Rows.{copied, moved, copied_within, applied, right_bit, combined, same_bits, same_spans}
 use Rattle.rules.specs.Refusals.{number, verdict, pair_cases, copy_cases, within_cases}
-use Rattle.rules.specs.Calls.{Answer, refused, done, says_yes, says_no, Call, here, there, copy_from, copy_within, boolean, equal, cases, answer!, after!, answer, after, swap_verdict, swap_answer, swap_left, swap_right}
+use Rattle.rules.specs.Calls.{Answer, refused, done, says_yes, says_no, Call, here, there, copy_from, copy_within, boolean, equal, cases, answer!, after!, answer, swap_verdict}
 use Rattle.rules.specs.Answers.{write_says, Gives, Swaps}
 use Rattle.rules.proofs.Refusals.Tables.{Inside}
 use Rattle.rules.proofs.Refusals.Accepted.{fine_pair, fine_copy}

@@ -2,21 +2,18 @@
 use mathlib.Core.Path.{◌≡◌, refl, sym, ap, ◌∙◌}
 use mathlib.Core.Logic.{◌⊎◌, inl, inr}
 use mathlib.Core.List.{List}
-use Prim.Native.Nat.{ℕ, zero, suc, ◌+◌, ◌-◌, ◌*◌, ◌/◌, ◌%◌, ◌^◌, ◌≤◌, ◌<◌, min}
+use Prim.Native.Nat.{ℕ, zero, suc, ◌+◌, ◌/◌, ◌%◌, ◌^◌, ◌≤◌, ◌<◌, min}
 use native.Mathlib.Nat.{div-add-mod'}
 use native.Mathlib.Omega.{arith}
 use lib.ListN.{length, get_or, set}
 use lib.Bits.{bit_and, bit_xor, differ, xor_lt, and_le_l}
-use lib.Pow.{high, ones_split, ones_lt, shl_exact}
-use Rattle.laws.specs.Types.{Order, Lsb0, Msb0}
+use Rattle.laws.specs.Types.{Order}
 use Rattle.rules.specs.Bits.{bit_n}
 use Rattle.rules.specs.Positions.{position, mask, spliced}
-use Rattle.rules.proofs.Bits.Bit.{bit_lt, bit_bit, bit_cases_lem, bit_and_lem, bit_xor_lem, bit_mask, bit_mask_below, bit_mask_above}
+use Rattle.rules.proofs.Bits.Bit.{bit_lt, bit_bit, bit_cases_lem, bit_and_lem, bit_xor_lem}
 use Rattle.rules.proofs.Rows.Row.{Words}
 use Rattle.laws.proofs.Rows.Word.{set_is_spliced}
-use Rattle.rules.proofs.Fields.Field.{lowest}
-use Rattle.rules.proofs.Bits.Masks.{mask_is, mask_in, mask_out}
-use Rattle.laws.proofs.Fields.Chunk.{lowest_fits, beside}
+use Rattle.rules.proofs.Bits.Masks.{mask_in, mask_out}
 
 -- ---- one of two words, bit by bit
 

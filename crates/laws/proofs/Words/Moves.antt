@@ -1,19 +1,19 @@
 -- A word moved along its indexes, two neighbouring words joined at a head, and so the bits of a row brought to the indexes of another word.
 -- Assumes nothing.
-use mathlib.Core.Path.{◌≡◌, refl, sym, ap, ◌∙◌, subst}
+use mathlib.Core.Path.{◌≡◌, sym, ap, ◌∙◌, subst}
 use mathlib.Core.List.{List}
-use Prim.Native.Nat.{ℕ, zero, suc, ◌+◌, ◌-◌, ◌*◌, ◌/◌, ◌%◌, ◌^◌, ◌≤◌, ◌<◌}
+use Prim.Native.Nat.{ℕ, ◌+◌, ◌-◌, ◌*◌, ◌/◌, ◌%◌, ◌^◌, ◌≤◌, ◌<◌}
 use native.Mathlib.Nat.{add_comm, add-zero, mul_assoc, mod-lt, div-add-mod'}
 use native.Mathlib.Omega.{arith}
-use lib.ListN.{length, get_or}
+use lib.ListN.{get_or}
 use lib.Bits.{bit_or}
 use lib.Pow.{pow-add, shr-shr, mod-mod-pow}
 use Rattle.laws.specs.Types.{Order, Lsb0, Msb0}
 use Rattle.rules.specs.Bits.{bit_n, of_bits}
 use Rattle.rules.specs.Positions.{position, row}
-use Rattle.rules.proofs.Bits.Bit.{bit_shr, bit_mod, bit_shl, bits_below}
+use Rattle.rules.proofs.Bits.Bit.{bit_shr, bit_mod, bit_shl}
 use Rattle.rules.proofs.Rows.Row.{Words, row_at, row_bit, position_lt, position_twice}
-use Rattle.rules.proofs.Bits.Digits.{bit_of_bits, of_bits_is, of_bits_lt}
+use Rattle.rules.proofs.Bits.Digits.{bit_of_bits, of_bits_is}
 use Rattle.laws.proofs.Words.Funnel.{shl_mod, funneled, funnel}
 
 -- ---- moved k indexes down, and up

@@ -1,5 +1,5 @@
 -- A width is above 0 and at most 64, and what that spares: sums and products of a checked span stay below 2 ^ 64. Assumes nothing.
-use Prim.Native.Nat.{ℕ, ◌-◌, ◌*◌, ◌^◌, ◌≤◌, ◌<◌}
+use Prim.Native.Nat.{ℕ, ◌*◌, ◌^◌, ◌≤◌, ◌<◌}
 use native.Mathlib.Omega.{arith}
 use lib.Dec.{lit<, lit≤}
 use Rattle.rules.specs.Types.{Width, W8, W64}

@@ -7,8 +7,8 @@ use native.Mathlib.Nat.{zero-mul, add-mul, div-add-mod', mod-lt, one-mul}
 use native.Mathlib.Decide.{dec_le}
 use native.Mathlib.Omega.{arith}
 use lib.ListN.{get_or}
-use Rattle.rules.specs.Types.{Order, Lsb0, Msb0, Significance, Le, Be}
-use Rattle.rules.specs.Fields.{exponent, weigh, load_of}
+use Rattle.rules.specs.Types.{Order, Significance, Le, Be}
+use Rattle.rules.specs.Fields.{weigh, load_of}
 use Rattle.rules.proofs.Fields.Field.{lowest, load_one, load_le, load_be}
 
 -- a piece: a number and how many bits it has
