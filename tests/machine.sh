@@ -22,6 +22,8 @@ if [ "$machine" = x86_64 ]; then
     rustdoc_words=()
     # Runs an x86-64 program.
     run() { "$@"; }
+    # Proves a program of crates/ and makes crates/NAME/out/NAME. `rt run` also runs it, here without words, and what it prints is dropped.
+    make_program() { (cd "crates/$1" && rt run </dev/null >/dev/null); }
     # Whether a Rust is on the PATH, with all that the tests want of it. Debian's serves where none is.
     has_rust() { rustdoc --version && cargo fmt --version && cargo clippy --version; } >/dev/null 2>&1
     has_rust || PATH=/usr/bin:$PATH
@@ -35,6 +37,12 @@ else
     cargo_folder=x86_64-unknown-linux-gnu/
     rustdoc_words=(--target x86_64-unknown-linux-gnu -C "linker=${cross}gcc" --test-runtool qemu-x86_64)
     run() { qemu-x86_64 "$@"; }
+    # The same: `rt run` makes the program and cannot run it.
+    make_program() {
+        rm -f "crates/$1/out/$1"
+        (cd "crates/$1" && rt run </dev/null >/dev/null)
+        [ -x "crates/$1/out/$1" ]
+    }
     needs_to_run() { printf '%s\n' qemu-x86_64:qemu-user /lib64/ld-linux-x86-64.so.2:libc6:amd64; }
     needs_to_test() {
         needs_to_run
