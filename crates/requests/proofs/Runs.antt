@@ -5,7 +5,7 @@ use mathlib.Core.Path.{◌≡◌, refl, sym, ◌∙◌, ap, ap₂}
 use mathlib.Core.List.{List, [], ◌∷◌, map}
 use lib.ListN.{length}
 use Rattle.rules.specs.Bits.{bit_at}
-use Rattle.rules.specs.Calls.{Answer, refused, answer, after}
+use Rattle.rules.specs.Calls.{Answer, refused}
 use Rattle.rules.specs.Answers.{Gives}
 use Rattle.rules.specs.Mixtures.{Party, one, two, Of, of, hers, All, answers, final, mixed_answers, mixed_final, told, left, Separate, Within}
 use Rattle.rules.proofs.Isolation.Isolation.{isolation, isolation_from}

@@ -5,10 +5,10 @@ use Rattle.wordless.proofs.orders.position.Reads as position
 use Rattle.wordless.proofs.orders.selector.Reads as selector
 use Rattle.wordless.proofs.orders.mask.Reads as mask
 use Rattle.wordless.proofs.numbers.low_bits.Reads as low_bits
-use Rattle.wordless.proofs.numbers.fitting_bits.Reads as fitting-bits
+use Rattle.wordless.proofs.numbers.fitting_bits.Reads as fitting_bits
 use Rattle.wordless.proofs.numbers.read.Reads as read
-use Rattle.wordless.proofs.numbers.to_i64.Reads as to-i64
-use Rattle.wordless.proofs.numbers.from_i64.Reads as from-i64
+use Rattle.wordless.proofs.numbers.to_i64.Reads as to_i64
+use Rattle.wordless.proofs.numbers.from_i64.Reads as from_i64
 
 position_only : (κs a r r' x x' : _) → position.Post κs a r x → position.Post κs a r' x' → r ≡ r'
 position_only κs a r r' x x' p q = one_position r r' (p ∙ sym q)
@@ -22,14 +22,14 @@ mask_only κs a r r' x x' p q = one_mask r r' (p ∙ sym q)
 low_bits_only : (κs a r r' x x' : _) → low_bits.Post κs a r x → low_bits.Post κs a r' x' → r ≡ r'
 low_bits_only κs a r r' x x' p q = one_low_bits r r' (p ∙ sym q)
 
-fitting_bits_only : (κs a r r' x x' : _) → fitting-bits.Post κs a r x → fitting-bits.Post κs a r' x' → r ≡ r'
+fitting_bits_only : (κs a r r' x x' : _) → fitting_bits.Post κs a r x → fitting_bits.Post κs a r' x' → r ≡ r'
 fitting_bits_only κs a r r' x x' p q = one_low_bits r r' (p ∙ sym q)
 
 read_only : (κs a r r' x x' : _) → read.Post κs a r x → read.Post κs a r' x' → r ≡ r'
 read_only κs a r r' x x' p q = one_number_answer r r' (p ∙ sym q)
 
-to_i64_only : (κs a r r' x x' : _) → to-i64.Post κs a r x → to-i64.Post κs a r' x' → r ≡ r'
+to_i64_only : (κs a r r' x x' : _) → to_i64.Post κs a r x → to_i64.Post κs a r' x' → r ≡ r'
 to_i64_only κs a r r' x x' p q = one_machine r r' (p ∙ sym q)
 
-from_i64_only : (κs a r r' x x' : _) → from-i64.Post κs a r x → from-i64.Post κs a r' x' → r ≡ r'
+from_i64_only : (κs a r r' x x' : _) → from_i64.Post κs a r x → from_i64.Post κs a r' x' → r ≡ r'
 from_i64_only κs a r r' x x' p q = whole_one r r' (p ∙ sym q)

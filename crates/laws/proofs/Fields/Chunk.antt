@@ -88,14 +88,14 @@ masked_beside W o h n fits x v small i l s = go (beside W o h n i fits l s)
     go (inr m) = masked_above W (lowest W o h n) n (lowest_fits W o h n fits) x v small (position W o i) m (position_lt W o i l)
 
 -- so the word stored by a mask is the field stored
-module _ (W : ℕ) (pos : 0 < W) (o : Order) (g : Significance) (ws : List ℕ) (k : ℕ) (in_List : k < length ws) (words : Words W ws) (h n : ℕ) (fits : h + n ≤ W) (v : ℕ) where
+module _ (W : ℕ) (pos : 0 < W) (o : Order) (g : Significance) (ws : List ℕ) (k : ℕ) (in_list : k < length ws) (words : Words W ws) (h n : ℕ) (fits : h + n ≤ W) (v : ℕ) where
   stored : ℕ
   stored = masked W (get_or ws k 0) (lowest W o h n) n v
 
   pub store_one : set ws k (masked W (get_or ws k 0) (lowest W o h n) n v) ≡ store_of W o g ws (k * W + h) n v
   unfolding store_of stored
   store_one =
-      set_is_spliced W pos o ws k in_List stored (masked_lt W (lowest W o h n) n (lowest_fits W o h n fits) (get_or ws k 0) v (words k)) words h n fits
+      set_is_spliced W pos o ws k in_list stored (masked_lt W (lowest W o h n) n (lowest_fits W o h n fits) (get_or ws k 0) v (words k)) words h n fits
       (λ i. bit_n v (exponent W o g (k * W + h) n i))
       (λ i m. ap (bit_n stored) (sym (exponent_one W pos k h n fits o g i m))
       ∙ masked_in W (lowest W o h n) n (lowest_fits W o h n fits) (get_or ws k 0) v (words k)

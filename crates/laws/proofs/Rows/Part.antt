@@ -61,8 +61,8 @@ part_word ws b m i l = get_or-take m (drop b ws) i 0 l ∙ get_or-drop b ws i 0
 pub mid_length : (ws : List ℕ) (a n k : ℕ) → n ≡ k → a + k ≤ length ws → length (take n (drop a ws)) ≡ k
 mid_length ws a n k e room = length-take-le n (drop a ws) (simp length-drop (omega arith)) ∙ e
 
-get_d_past : (xs ys : List ℕ) (i n : ℕ) → length xs ≡ n → n ≤ i → get_or (xs ++ ys) i 0 ≡ get_or ys (i - n) 0
-get_d_past xs ys i n e h = ap (λ (m : ℕ). get_or (xs ++ ys) m 0) (omega arith) ∙ get_or-append-add xs ys (i - n) 0
+get_or_past : (xs ys : List ℕ) (i n : ℕ) → length xs ≡ n → n ≤ i → get_or (xs ++ ys) i 0 ≡ get_or ys (i - n) 0
+get_or_past xs ys i n e h = ap (λ (m : ℕ). get_or (xs ++ ys) m 0) (omega arith) ∙ get_or-append-add xs ys (i - n) 0
 
 get_or_within : (xs ys : List ℕ) (i n : ℕ) → length xs ≡ n → i < n → get_or (xs ++ ys) i 0 ≡ get_or xs i 0
 get_or_within xs ys i n e h = get_or-append xs ys 0 i (omega arith)
@@ -73,13 +73,13 @@ module _ (ws ys : List ℕ) (a k : ℕ) (room : a + k ≤ length ws) (e : length
 
   pub put_inside : (i : ℕ) → i < k → get_or (put_mid a k ws ys) (a + i) 0 ≡ get_or ys i 0
   put_inside i l =
-      get_d_past (take a ws) (ys ++ post_of a k ws) (a + i) a (length-take-le a ws (omega arith)) (omega arith)
+      get_or_past (take a ws) (ys ++ post_of a k ws) (a + i) a (length-take-le a ws (omega arith)) (omega arith)
       ∙ get_or_within ys (post_of a k ws) (a + i - a) k e (omega arith) ∙ ap (λ (m : ℕ). get_or ys m 0) (omega arith)
 
   pub put_above : (i : ℕ) → a + k ≤ i → get_or (put_mid a k ws ys) i 0 ≡ get_or ws i 0
   put_above i h =
-      get_d_past (take a ws) (ys ++ post_of a k ws) i a (length-take-le a ws (omega arith)) (omega arith)
-      ∙ get_d_past ys (post_of a k ws) (i - a) k e (omega arith)
+      get_or_past (take a ws) (ys ++ post_of a k ws) i a (length-take-le a ws (omega arith)) (omega arith)
+      ∙ get_or_past ys (post_of a k ws) (i - a) k e (omega arith)
       ∙ get_or-drop k (drop a ws) (i - a - k) 0 ∙ get_or-drop a ws (k + (i - a - k)) 0 ∙ ap (λ (m : ℕ). get_or ws m 0) (omega arith)
 
   pub put_length : length (put_mid a k ws ys) ≡ length ws

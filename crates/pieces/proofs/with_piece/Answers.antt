@@ -2,7 +2,7 @@
 use native.Mathlib.Omega.{arith}
 use native.Mathlib.Nat.{mod-lt, lt_of_lt_of_le}
 use mathlib.Core.Path.{◌≡◌}
-use Prim.Native.Nat.{ℕ, ◌+◌, ◌-◌, ◌*◌, ◌^◌, ◌%◌, ◌<◌}
+use Prim.Native.Nat.{◌+◌, ◌-◌, ◌*◌, ◌^◌, ◌%◌, ◌<◌}
 use lib.Pow.{shl_exact, ones_lt, shl_lt, pow_mono, pow_pos}
 use lib.Bits.{bit_and, bit_or, and_mask}
 use Rattle.rules.proofs.Fields.Field.{lowest}

@@ -34,8 +34,8 @@ unfolding tabulate
 length_tabulate zero f = refl
 length_tabulate (suc n) f = ap suc (length_tabulate n (λ k. f (suc k)))
 
-pub get_d_tabulate : (n : ℕ) (f : ℕ → ℕ) (k : ℕ) → k < n → get_or (tabulate n f) k 0 ≡ f k
+pub get_or_tabulate : (n : ℕ) (f : ℕ → ℕ) (k : ℕ) → k < n → get_or (tabulate n f) k 0 ≡ f k
 unfolding tabulate
-get_d_tabulate zero f k h = absurd (omega arith)
-get_d_tabulate (suc n) f zero h = refl
-get_d_tabulate (suc n) f (suc k) h = get_d_tabulate n (λ j. f (suc j)) k (le_of_suc-le-suc h)
+get_or_tabulate zero f k h = absurd (omega arith)
+get_or_tabulate (suc n) f zero h = refl
+get_or_tabulate (suc n) f (suc k) h = get_or_tabulate n (λ j. f (suc j)) k (le_of_suc-le-suc h)

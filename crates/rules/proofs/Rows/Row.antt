@@ -14,7 +14,7 @@ use Rattle.rules.specs.Bits.{bit_n, of_bits, bit_at, from_bits}
 use Rattle.rules.specs.Positions.{position, mirror, row, from_row}
 use Rattle.rules.proofs.Bits.Bit.{bit_lt, bit_of_zero}
 use Rattle.rules.proofs.Bits.Weigh.{Renumbers}
-use Rattle.rules.proofs.Bits.Digits.{bit_of_bits, of_bits_lt, of_bits_is, of_bits_ext, length_tabulate, get_d_tabulate}
+use Rattle.rules.proofs.Bits.Digits.{bit_of_bits, of_bits_lt, of_bits_is, of_bits_ext, length_tabulate, get_or_tabulate}
 
 -- positions 0 to 7 of a byte
 positions : map (position 8 Msb0) (0 ∷ 1 ∷ 2 ∷ 7 ∷ []) ≡ 7 ∷ 6 ∷ 5 ∷ 0 ∷ []
@@ -78,7 +78,7 @@ length_from_bits W n f = length_tabulate n (λ k. of_bits W (λ p. f (k * W + p)
 
 pub get_or_from_bits : (W n : ℕ) (f : ℕ → ℕ) (k : ℕ) → k < n → get_or (from_bits W n f) k 0 ≡ of_bits W (λ p. f (k * W + p))
 unfolding from_bits
-get_or_from_bits W n f k h = get_d_tabulate n (λ k. of_bits W (λ p. f (k * W + p))) k h
+get_or_from_bits W n f k h = get_or_tabulate n (λ k. of_bits W (λ p. f (k * W + p))) k h
 
 pub words_from_bits : (W n : ℕ) (f : ℕ → ℕ) → Words W (from_bits W n f)
 words_from_bits W n f k = go (dec_lt k n)

@@ -1,5 +1,5 @@
 -- `put_four`: the first half stored, and then the second. Assumes nothing.
-use mathlib.Core.Path.{◌≡◌, ap, ◌∙◌}
+use mathlib.Core.Path.{ap, ◌∙◌}
 use Prim.Native.Nat.{◌+◌, ◌*◌}
 use lib.Dec.{lit<}
 use Rattle.rules.specs.Fields.{store_of}

@@ -1,6 +1,6 @@
 -- `check_bit`: what the span is refused for, or the last row. Assumes nothing.
 use borrow.Author.Tests.{le-leb, lt-leb}
-use mathlib.Core.Path.{◌≡◌, sym, ◌∙◌}
+use mathlib.Core.Path.{sym, ◌∙◌}
 use Rattle.rules.specs.Refusals.{bit_cases}
 use Rattle.rules.proofs.Refusals.Tables.{stops, last_holds, last_clear}
 use Rattle.rules.proofs.Refusals.OneAnswer.{judged, judges}

@@ -1,6 +1,5 @@
 -- `check_chunk`: a field that has not begun well is refused; one that has is accepted in one word, or in two where the second is lent. Assumes
 -- nothing.
-use borrow.Author.Tests.{not-true, not-false}
 use mathlib.Core.Path.{sym}
 use Prim.Native.Nat.{◌≤◌}
 use native.Mathlib.Omega.{arith}

@@ -1,5 +1,5 @@
 -- `check_rows`: what the span is refused for, or the rows that follow. Assumes nothing.
-use mathlib.Core.Path.{◌≡◌, sym, ◌∙◌}
+use mathlib.Core.Path.{sym, ◌∙◌}
 use Rattle.rules.specs.Refusals.{load_cases}
 use Rattle.rules.proofs.Refusals.Tables.{stops, goes}
 use Rattle.rules.proofs.Refusals.OneAnswer.{judged, judges}

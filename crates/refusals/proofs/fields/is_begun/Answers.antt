@@ -2,7 +2,6 @@
 use native.Mathlib.Omega.{arith}
 use mathlib.Core.Path.{sym, ◌∙◌}
 use mathlib.Core.Bool.{false≢true}
-use Rattle.laws.proofs.Fields.Begun.{Begun}
 use Rattle.refusals.proofs.fields.is_begun.Goals as goal
 
 pub returns-then-lent-gt-MOST_WORDS : goal.returns-then-lent-gt-MOST_WORDS

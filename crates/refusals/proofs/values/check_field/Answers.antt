@@ -1,7 +1,6 @@
 -- `check_field`: the tests are the rows of the table in their order.
 use mathlib.Core.Path.{◌≡◌, sym, ◌∙◌}
 use mathlib.Core.Bool.{true}
-use borrow.Author.Tests.{not-true, not-false}
 use Rattle.rules.specs.Fields.{is_size}
 use Rattle.rules.proofs.Refusals.Tables.{no_such_K, empty_field, long_field, field_fine}
 use Rattle.rules.proofs.Refusals.OneAnswer.{judges}

@@ -1,6 +1,5 @@
 -- `is_size`: a bit of 120 first, then a power of two.
 use mathlib.Core.Path.{sym}
-use native.Mathlib.Omega.{arith}
 use Rattle.laws.proofs.Bits.Sizes.{no_bit, some_bit, power}
 use Rattle.refusals.proofs.values.is_size.Goals as goal
 

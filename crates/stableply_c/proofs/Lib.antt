@@ -1,0 +1,3 @@
+pub mod OnlyOne
+pub mod OnlyOne64
+pub mod OnlyOne8
