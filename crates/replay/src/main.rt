@@ -7,7 +7,7 @@ mod faults;
 mod replaying;
 mod tally;
 mod telling;
-mod wordless;
+mod without_words;
 
 use crate::tally::COUNTS;
 use records::form::MOST_LENT;

@@ -1,6 +1,6 @@
 // Records replayed one after another: each call made, and what is seen after it held to the record and counted.
 use crate::tally::COUNTS;
-use crate::{faults, tally, telling, wordless};
+use crate::{faults, tally, telling, without_words};
 use records::calls::lends;
 use records::form::{Fault, MOST_LENT};
 use records::input::{LONGEST, Next};
@@ -82,7 +82,7 @@ fn made(
     second8: &mut [u8; MOST_LENT],
 ) -> Seen {
     if !lends(call_of(record)) {
-        return seen::wordless(wordless::made(record));
+        return seen::wordless(without_words::made(record));
     }
     if width_of(record) == 64 {
         return recorded64::seen(record, first64, second64);
