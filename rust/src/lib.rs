@@ -34,7 +34,7 @@
 //! # The archive
 //!
 //! The crate links `libstableply.a`, for Linux on x86-64. The build looks for it in the folder that `STABLEPLY_LIB_DIR` names,
-//! else in the project's target/staticlib. Where it is not there, the build has the prover's command `rt` make it, or says what
+//! else in the project's target/staticlib. Where it is not there, the build has the project's `tools/archive` make it, or says what
 //! to run.
 //!
 //! # Features
