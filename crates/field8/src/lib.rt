@@ -4,7 +4,7 @@
 ghost use Rattle.std.specs.Prelude.{◌≡◌};
 ghost use Rattle.word8.specs.Width.{W};
 ghost use Rattle.rules.specs.Fields.{whole};
-ghost use Rattle.rules.specs.Calls.{read_bit, write_bit, load as loadCall, store as storeCall, store_strict, answer, after, digit};
+ghost use Rattle.rules.specs.Calls.{read_bit, write_bit, load as load_call, store as store_call, store_strict, answer, after, digit};
 ghost use Rattle.rules.specs.Answers.{bit_says, number_says, write_says, Gives};
 
 use bits8::{load_by, put_piece, store_by};
@@ -59,7 +59,7 @@ pub fn load(
     significance: Significance,
     sign: Sign,
 ) -> NumberAnswer
-    ensures { number_says result ≡ answer W (loadCall span k significance sign) words.now }
+    ensures { number_says result ≡ answer W (load_call span k significance sign) words.now }
 {
     let verdict = refusals::check_load(Width::W8, words.len(), span, k);
     match verdict {
@@ -82,7 +82,7 @@ pub fn store(
     sign: Sign,
     value: Number,
 ) -> WriteAnswer
-    ensures { Gives W (storeCall span k significance sign (whole value)) words.old (write_says result) words.new }
+    ensures { Gives W (store_call span k significance sign (whole value)) words.old (write_says result) words.new }
 {
     let verdict = refusals::check_store(Width::W8, words.len(), span, k, sign, value);
     match verdict {

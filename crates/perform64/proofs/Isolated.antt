@@ -5,7 +5,6 @@ use mathlib.Core.List.{List, map}
 use lib.Dec.{lit<}
 use lib.ListN.{length}
 use Rattle.word64.specs.Width.{W}
-use Rattle.rules.specs.Calls.{answer, after}
 use Rattle.rules.specs.Answers.{Gives}
 use Rattle.rules.specs.Mixtures.{Party, Of, All, Asked, Separate, Within, Isolated}
 use Rattle.rules.proofs.Isolation.Isolation.{isolation}

@@ -1,8 +1,7 @@
 -- `combine64::plain_words`: below i each word is the operation's, from i on it is the old one.
-use mathlib.Core.Path.{◌≡◌, refl, ap₂, ◌∙◌}
-use Prim.Native.Nat.{ℕ, ◌-◌, ◌≤◌, ◌<◌}
+use mathlib.Core.Path.{refl, ap₂, ◌∙◌}
 use native.Mathlib.Omega.{arith}
-use lib.ListN.{length, get_or}
+use lib.ListN.{get_or}
 use borrow.Author.Count.{below_none}
 use Rattle.word64.specs.Width.{W}
 use Rattle.laws.proofs.Rows.Filled.{filled_more, kept_more}

@@ -1,8 +1,8 @@
 -- `combine8::funnel_words`: below i each word is the operation's, from i on it is the old one.
-use mathlib.Core.Path.{◌≡◌, refl, ap₂, ◌∙◌}
-use Prim.Native.Nat.{ℕ, ◌+◌, ◌-◌, ◌≤◌, ◌<◌}
+use mathlib.Core.Path.{refl, ap₂, ◌∙◌}
+use Prim.Native.Nat.{◌+◌}
 use native.Mathlib.Omega.{arith}
-use lib.ListN.{length, get_or}
+use lib.ListN.{get_or}
 use borrow.Author.Count.{below_none}
 use Rattle.word8.specs.Width.{W}
 use Rattle.laws.proofs.Words.Funnel.{funneled}

@@ -1,12 +1,9 @@
 -- `combine8::funnel_words`: below i each word is the operation's, from i on it is the old one.
-use mathlib.Core.Path.{◌≡◌, refl, ap₂, ◌∙◌}
+use mathlib.Core.Path.{◌≡◌}
 use Prim.Native.Nat.{ℕ, ◌+◌, ◌-◌, ◌≤◌, ◌<◌}
-use native.Mathlib.Omega.{arith}
 use lib.ListN.{length, get_or}
-use borrow.Author.Count.{below_none}
 use Rattle.word8.specs.Width.{W}
 use Rattle.laws.proofs.Words.Funnel.{funneled}
-use Rattle.laws.proofs.Rows.Filled.{filled_more, kept_more}
 use Rattle.laws.proofs.Words.Combine.{wordwise}
 use Rattle.combine8.proofs.funnel_words.Given as goal
 

@@ -1,8 +1,8 @@
 -- `combine8::rest_words`: below i each word is the operation's, from i on it is the old one.
-use mathlib.Core.Path.{◌≡◌, refl, ap, ◌∙◌}
-use Prim.Native.Nat.{ℕ, ◌-◌, ◌≤◌, ◌<◌}
+use mathlib.Core.Path.{refl, ap, ◌∙◌}
+use Prim.Native.Nat.{ℕ}
 use native.Mathlib.Omega.{arith}
-use lib.ListN.{length, get_or}
+use lib.ListN.{get_or}
 use borrow.Author.Count.{below_none}
 use Rattle.word8.specs.Width.{W}
 use Rattle.laws.proofs.Rows.Filled.{filled_more, kept_more}

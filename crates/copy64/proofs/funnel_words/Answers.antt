@@ -1,8 +1,8 @@
 -- `copy64::funnel_words`: below i each word is joined of two of the source's.
-use mathlib.Core.Path.{◌≡◌, refl}
-use Prim.Native.Nat.{ℕ, ◌+◌, ◌-◌, ◌≤◌, ◌<◌}
+use mathlib.Core.Path.{refl}
+use Prim.Native.Nat.{◌+◌}
 use native.Mathlib.Omega.{arith}
-use lib.ListN.{length, get_or}
+use lib.ListN.{get_or}
 use borrow.Author.Count.{below_none}
 use Rattle.word64.specs.Width.{W}
 use Rattle.laws.proofs.Words.Funnel.{funneled}

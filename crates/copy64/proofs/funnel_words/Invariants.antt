@@ -1,12 +1,9 @@
 -- `copy64::funnel_words`: below i each word is joined of two of the source's.
-use mathlib.Core.Path.{◌≡◌, refl}
+use mathlib.Core.Path.{◌≡◌}
 use Prim.Native.Nat.{ℕ, ◌+◌, ◌-◌, ◌≤◌, ◌<◌}
-use native.Mathlib.Omega.{arith}
 use lib.ListN.{length, get_or}
-use borrow.Author.Count.{below_none}
 use Rattle.word64.specs.Width.{W}
 use Rattle.laws.proofs.Words.Funnel.{funneled}
-use Rattle.laws.proofs.Rows.Filled.{filled_more}
 use Rattle.copy64.proofs.funnel_words.Given as goal
 
 abbrev pub invariant-loop-i : goal.invariant-loop-i

@@ -1,8 +1,7 @@
 -- `copy8::plain_words`: below i each word is the source's.
-use mathlib.Core.Path.{◌≡◌, refl}
-use Prim.Native.Nat.{ℕ, ◌-◌, ◌≤◌, ◌<◌}
+use mathlib.Core.Path.{refl}
 use native.Mathlib.Omega.{arith}
-use lib.ListN.{length, get_or}
+use lib.ListN.{get_or}
 use borrow.Author.Count.{below_none}
 use Rattle.laws.proofs.Rows.Filled.{filled_more}
 use Rattle.copy8.proofs.plain_words.Goals as goal

@@ -1,10 +1,7 @@
 -- `copy8::plain_words`: below i each word is the source's.
-use mathlib.Core.Path.{◌≡◌, refl}
+use mathlib.Core.Path.{◌≡◌}
 use Prim.Native.Nat.{ℕ, ◌-◌, ◌≤◌, ◌<◌}
-use native.Mathlib.Omega.{arith}
 use lib.ListN.{length, get_or}
-use borrow.Author.Count.{below_none}
-use Rattle.laws.proofs.Rows.Filled.{filled_more}
 use Rattle.copy8.proofs.plain_words.Given as goal
 
 abbrev pub invariant-loop-i : goal.invariant-loop-i

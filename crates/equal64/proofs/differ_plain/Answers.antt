@@ -1,6 +1,6 @@
 -- `equal64::differ_plain`: what was gathered is 0 exactly if the first i words agree.
 use mathlib.Core.Path.{◌≡◌, subst}
-use Prim.Native.Nat.{ℕ, ◌+◌, ◌-◌, ◌≤◌}
+use Prim.Native.Nat.{ℕ, ◌+◌}
 use native.Mathlib.Omega.{arith}
 use lib.ListN.{get_or}
 use Rattle.laws.proofs.Words.Agree.{Differs, differs_none, differs_more}

@@ -5,7 +5,6 @@ use native.Mathlib.Omega.{arith}
 use lib.ListN.{length}
 use Rattle.word64.specs.Width.{W}
 use Rattle.rules.specs.declared.Verdict.TheVariants.{Fine}
-use Rattle.rules.specs.Positions.{row}
 use Rattle.rules.specs.Refusals.{verdict, pair_cases}
 use Rattle.rules.proofs.Refusals.Accepted.{Pair, fine_pair}
 use Rattle.laws.proofs.Rows.RowCalls.{start_in, equal_refused, equal_lengths, equal_bits}

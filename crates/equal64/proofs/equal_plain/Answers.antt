@@ -1,10 +1,10 @@
 -- `equal64::equal_plain`: the first i words agree; a block that differs, or the last words, decide.
 use mathlib.Core.Path.{refl, ap}
-use Prim.Native.Nat.{ℕ, ◌+◌, ◌-◌, ◌≤◌}
+use Prim.Native.Nat.{ℕ, ◌+◌, ◌-◌}
 use native.Mathlib.Nat.{add_assoc}
 use native.Mathlib.Omega.{arith}
 use lib.ListN.{get_or}
-use Rattle.laws.proofs.Words.Agree.{Agree, agree_on, agree_off, tells_no, tells_zero, differs_on}
+use Rattle.laws.proofs.Words.Agree.{agree_on, agree_off, tells_no, tells_zero, differs_on}
 use Rattle.equal64.proofs.equal_plain.Goals as goal
 
 pub loop-i-init : goal.loop-i-init

@@ -1,10 +1,7 @@
 -- `equal64::equal_plain`: the first i words agree; a block that differs, or the last words, decide.
-use mathlib.Core.Path.{refl, ap}
-use Prim.Native.Nat.{ℕ, ◌+◌, ◌-◌, ◌≤◌}
-use native.Mathlib.Nat.{add_assoc}
-use native.Mathlib.Omega.{arith}
+use Prim.Native.Nat.{◌+◌, ◌-◌, ◌≤◌}
 use lib.ListN.{get_or}
-use Rattle.laws.proofs.Words.Agree.{Agree, agree_on, agree_off, tells_no, tells_zero, differs_on}
+use Rattle.laws.proofs.Words.Agree.{Agree}
 use Rattle.equal64.proofs.equal_plain.Given as goal
 
 abbrev pub invariant-loop-i : goal.invariant-loop-i

@@ -5,7 +5,6 @@ use Prim.Native.Nat.{◌+◌, ◌-◌, ◌*◌, ◌/◌}
 use native.Mathlib.Nat.{add_assoc}
 use native.Mathlib.Omega.{arith}
 use lib.Dec.{lit<}
-use borrow.Author.Tests.{not-true, not-false}
 use Rattle.word64.specs.Width.{W}
 use Rattle.rules.specs.Positions.{row}
 use Rattle.laws.proofs.Rows.Part.{last_fits}

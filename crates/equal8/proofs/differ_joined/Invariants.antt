@@ -1,11 +1,9 @@
 -- `equal8::differ_joined`: what was gathered is 0 exactly if the first i words agree.
-use mathlib.Core.Path.{◌≡◌, subst}
-use Prim.Native.Nat.{ℕ, ◌+◌, ◌-◌, ◌≤◌}
-use native.Mathlib.Omega.{arith}
+use Prim.Native.Nat.{◌+◌, ◌-◌, ◌≤◌}
 use lib.ListN.{get_or}
 use Rattle.word8.specs.Width.{W}
 use Rattle.laws.proofs.Words.Funnel.{funneled}
-use Rattle.laws.proofs.Words.Agree.{Differs, differs_none, differs_more}
+use Rattle.laws.proofs.Words.Agree.{Differs}
 use Rattle.equal8.proofs.differ_joined.Given as goal
 
 abbrev pub invariant-loop-i : goal.invariant-loop-i

@@ -1,9 +1,7 @@
 -- `equal8::differ_plain`: what was gathered is 0 exactly if the first i words agree.
-use mathlib.Core.Path.{◌≡◌, subst}
-use Prim.Native.Nat.{ℕ, ◌+◌, ◌-◌, ◌≤◌}
-use native.Mathlib.Omega.{arith}
+use Prim.Native.Nat.{◌+◌, ◌-◌, ◌≤◌}
 use lib.ListN.{get_or}
-use Rattle.laws.proofs.Words.Agree.{Differs, differs_none, differs_more}
+use Rattle.laws.proofs.Words.Agree.{Differs}
 use Rattle.equal8.proofs.differ_plain.Given as goal
 
 abbrev pub invariant-loop-i : goal.invariant-loop-i

@@ -1,12 +1,9 @@
 -- `equal8::equal_joined`: the first i words agree; a block that differs, or the last words, decide.
-use mathlib.Core.Path.{refl, ap}
-use Prim.Native.Nat.{ℕ, ◌+◌, ◌-◌, ◌≤◌}
-use native.Mathlib.Nat.{add_assoc}
-use native.Mathlib.Omega.{arith}
+use Prim.Native.Nat.{◌+◌, ◌-◌, ◌≤◌}
 use lib.ListN.{get_or}
 use Rattle.word8.specs.Width.{W}
 use Rattle.laws.proofs.Words.Funnel.{funneled}
-use Rattle.laws.proofs.Words.Agree.{Agree, agree_on, agree_off, tells_no, tells_zero, differs_on}
+use Rattle.laws.proofs.Words.Agree.{Agree}
 use Rattle.equal8.proofs.equal_joined.Given as goal
 
 abbrev pub invariant-loop-i : goal.invariant-loop-i

@@ -1,9 +1,7 @@
 -- `write_bit`: the bit is stored as a piece of one bit of its word. Assumes nothing.
 use native.Mathlib.Omega.{arith}
-use native.Mathlib.Nat.{mod-lt}
 use mathlib.Core.Path.{◌≡◌, refl, sym, ap, ◌∙◌}
-use Prim.Native.Nat.{ℕ, ◌+◌, ◌*◌, ◌/◌, ◌%◌}
-use lib.Dec.{lit<}
+use Prim.Native.Nat.{◌+◌, ◌*◌, ◌/◌, ◌%◌}
 use lib.ListN.{length}
 use Rattle.word8.specs.Width.{W}
 use Rattle.rules.specs.declared.Significance.TheVariants.{Le}

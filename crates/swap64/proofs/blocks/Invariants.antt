@@ -1,13 +1,9 @@
 -- `swap64::blocks`: the first i bits are exchanged.
-use mathlib.Core.Path.{◌≡◌, refl, ap, ◌∙◌}
-use Prim.Native.Nat.{ℕ, ◌+◌, ◌-◌, ◌≤◌}
-use native.Mathlib.Omega.{arith}
+use mathlib.Core.Path.{◌≡◌}
+use Prim.Native.Nat.{◌+◌, ◌-◌, ◌≤◌}
 use lib.ListN.{length}
-use lib.Dec.{lit<}
 use Rattle.word64.specs.Width.{W}
 use Rattle.rules.specs.Positions.{row, spliced}
-use Rattle.laws.proofs.Rows.Part.{none_put}
-use Rattle.laws.proofs.Rows.Scratch.{step_swap}
 use Rattle.swap64.proofs.blocks.Given as goal
 
 abbrev pub invariant-loop-i : goal.invariant-loop-i

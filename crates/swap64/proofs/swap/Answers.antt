@@ -4,7 +4,6 @@ use native.Mathlib.Omega.{arith}
 use lib.ListN.{length}
 use Rattle.word64.specs.Width.{W}
 use Rattle.rules.specs.declared.Verdict.TheVariants.{Fine}
-use Rattle.rules.specs.Positions.{row}
 use Rattle.rules.specs.Refusals.{verdict, copy_cases}
 use Rattle.rules.proofs.Refusals.Accepted.{Copy, fine_copy}
 use Rattle.laws.proofs.Rows.RowCalls.{start_in, swap_refused, swap_done}

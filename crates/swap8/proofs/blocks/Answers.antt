@@ -1,8 +1,7 @@
 -- `swap8::blocks`: the first i bits are exchanged.
 use mathlib.Core.Path.{◌≡◌, refl, ap, ◌∙◌}
-use Prim.Native.Nat.{ℕ, ◌+◌, ◌-◌, ◌≤◌}
+use Prim.Native.Nat.{ℕ, ◌+◌}
 use native.Mathlib.Omega.{arith}
-use lib.ListN.{length}
 use lib.Dec.{lit<}
 use Rattle.word8.specs.Width.{W}
 use Rattle.rules.specs.Positions.{row, spliced}

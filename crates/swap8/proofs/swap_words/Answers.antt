@@ -1,8 +1,7 @@
 -- `swap8::swap_words`: below i either side has the other's words, from i on its own.
-use mathlib.Core.Path.{◌≡◌, refl, ◌∙◌}
-use Prim.Native.Nat.{ℕ, ◌-◌, ◌≤◌, ◌<◌}
+use mathlib.Core.Path.{refl, ◌∙◌}
 use native.Mathlib.Omega.{arith}
-use lib.ListN.{length, get_or}
+use lib.ListN.{get_or}
 use borrow.Author.Count.{below_none}
 use Rattle.laws.proofs.Rows.Filled.{filled_more, kept_more}
 use Rattle.swap8.proofs.swap_words.Goals as goal

@@ -1,10 +1,7 @@
 -- `swap8::swap_words`: below i either side has the other's words, from i on its own.
-use mathlib.Core.Path.{◌≡◌, refl, ◌∙◌}
+use mathlib.Core.Path.{◌≡◌}
 use Prim.Native.Nat.{ℕ, ◌-◌, ◌≤◌, ◌<◌}
-use native.Mathlib.Omega.{arith}
 use lib.ListN.{length, get_or}
-use borrow.Author.Count.{below_none}
-use Rattle.laws.proofs.Rows.Filled.{filled_more, kept_more}
 use Rattle.swap8.proofs.swap_words.Given as goal
 
 abbrev pub invariant-loop-i : goal.invariant-loop-i

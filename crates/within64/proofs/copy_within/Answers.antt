@@ -4,7 +4,6 @@ use native.Mathlib.Omega.{arith}
 use lib.ListN.{length}
 use Rattle.word64.specs.Width.{W}
 use Rattle.rules.specs.declared.Verdict.TheVariants.{Fine}
-use Rattle.rules.specs.Positions.{row}
 use Rattle.rules.specs.Refusals.{verdict, within_cases}
 use Rattle.rules.proofs.Refusals.Accepted.{Move, fine_move}
 use Rattle.laws.proofs.Rows.RowCalls.{start_in, within_refused, within_done}

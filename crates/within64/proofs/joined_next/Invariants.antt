@@ -1,16 +1,10 @@
 -- `within64::joined_next`: all but the first i words are moved; a word more is joined of the one before it and itself, and neither was written.
 -- Assumes nothing.
-use mathlib.Core.Path.{◌≡◌, refl, ap, ap₂, ◌∙◌}
-use Prim.Native.Nat.{ℕ, ◌+◌, ◌-◌, ◌*◌, ◌≤◌}
-use native.Mathlib.Omega.{arith}
-use lib.ListN.{length, get_or, set, length-set}
-use lib.Dec.{lit<}
+use mathlib.Core.Path.{◌≡◌}
+use Prim.Native.Nat.{◌+◌, ◌-◌, ◌*◌, ◌≤◌}
+use lib.ListN.{length}
 use Rattle.word64.specs.Width.{W}
 use Rattle.rules.specs.Rows.{moved}
-use Rattle.laws.proofs.Words.Funnel.{funneled}
-use Rattle.laws.proofs.Words.Moves.{from_funnel}
-use Rattle.laws.proofs.Rows.Scratch.{moved_none}
-use Rattle.laws.proofs.Rows.InPlace.{moved_at, word_down}
 use Rattle.within64.proofs.joined_next.Given as goal
 
 abbrev pub invariant-loop-i : goal.invariant-loop-i

@@ -1,14 +1,10 @@
 -- `within64::plain_up`: the first i words are moved; a word more is not one that was written.
-use mathlib.Core.Path.{◌≡◌, refl, ◌∙◌}
+use mathlib.Core.Path.{refl, ◌∙◌}
 use mathlib.Core.Logic.{inl, inr, ⊎_elim}
-use Prim.Native.Nat.{◌+◌, ◌-◌, ◌*◌, ◌≤◌}
+use Prim.Native.Nat.{◌+◌, ◌*◌}
 use native.Mathlib.Omega.{arith}
-use lib.ListN.{length}
 use lib.Dec.{lit<}
 use Rattle.word64.specs.Width.{W}
-use Rattle.rules.specs.declared.Order.{Order}
-use Rattle.rules.specs.Rows.{moved}
-use Rattle.rules.proofs.Rows.Row.{Words}
 use Rattle.laws.proofs.Words.Moves.{from_word}
 use Rattle.laws.proofs.Rows.Scratch.{moved_none}
 use Rattle.laws.proofs.Rows.InPlace.{moved_at, word_up}

@@ -1,11 +1,9 @@
 -- `within8::joined_down`: all but the first i words are moved; a word more is joined of two that were not written.
-use mathlib.Core.Path.{◌≡◌, refl, ◌∙◌}
-use Prim.Native.Nat.{◌+◌, ◌-◌, ◌*◌, ◌≤◌}
+use mathlib.Core.Path.{refl, ◌∙◌}
+use Prim.Native.Nat.{◌+◌, ◌-◌, ◌*◌}
 use native.Mathlib.Omega.{arith}
-use lib.ListN.{length}
 use lib.Dec.{lit<}
 use Rattle.word8.specs.Width.{W}
-use Rattle.rules.specs.Rows.{moved}
 use Rattle.laws.proofs.Words.Moves.{from_funnel}
 use Rattle.laws.proofs.Rows.Scratch.{moved_none}
 use Rattle.laws.proofs.Rows.InPlace.{moved_at, word_down}

@@ -1,14 +1,9 @@
 -- `within8::joined_down`: all but the first i words are moved; a word more is joined of two that were not written.
-use mathlib.Core.Path.{◌≡◌, refl, ◌∙◌}
+use mathlib.Core.Path.{◌≡◌}
 use Prim.Native.Nat.{◌+◌, ◌-◌, ◌*◌, ◌≤◌}
-use native.Mathlib.Omega.{arith}
 use lib.ListN.{length}
-use lib.Dec.{lit<}
 use Rattle.word8.specs.Width.{W}
 use Rattle.rules.specs.Rows.{moved}
-use Rattle.laws.proofs.Words.Moves.{from_funnel}
-use Rattle.laws.proofs.Rows.Scratch.{moved_none}
-use Rattle.laws.proofs.Rows.InPlace.{moved_at, word_down}
 use Rattle.within8.proofs.joined_down.Given as goal
 
 abbrev pub invariant-loop-i : goal.invariant-loop-i

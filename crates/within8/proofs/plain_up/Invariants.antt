@@ -1,17 +1,11 @@
 -- `within8::plain_up`: the first i words are moved; a word more is not one that was written.
-use mathlib.Core.Path.{◌≡◌, refl, ◌∙◌}
-use mathlib.Core.Logic.{inl, inr, ⊎_elim}
+use mathlib.Core.Path.{◌≡◌}
 use Prim.Native.Nat.{◌+◌, ◌-◌, ◌*◌, ◌≤◌}
-use native.Mathlib.Omega.{arith}
 use lib.ListN.{length}
-use lib.Dec.{lit<}
 use Rattle.word8.specs.Width.{W}
 use Rattle.rules.specs.declared.Order.{Order}
 use Rattle.rules.specs.Rows.{moved}
 use Rattle.rules.proofs.Rows.Row.{Words}
-use Rattle.laws.proofs.Words.Moves.{from_word}
-use Rattle.laws.proofs.Rows.Scratch.{moved_none}
-use Rattle.laws.proofs.Rows.InPlace.{moved_at, word_up}
 use Rattle.within8.proofs.plain_up.Given as goal
 
 abbrev pub invariant-loop-i : goal.invariant-loop-i

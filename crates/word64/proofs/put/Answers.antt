@@ -5,6 +5,7 @@ use native.Mathlib.Omega.{arith}
 use lib.ListN.{set}
 use lib.Dec.{lit<}
 use Rattle.word64.specs.Width.{W}
+use Rattle.rules.specs.Positions.{mask}
 use Rattle.laws.proofs.Words.Merged.{put_piece}
 use Rattle.word64.proofs.put.Goals as goal
 

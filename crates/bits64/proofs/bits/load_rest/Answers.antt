@@ -1,7 +1,7 @@
 -- `load_rest`: the whole words and the last piece joined are the rest of the field. Assumes nothing.
 use native.Mathlib.Omega.{arith}
 use mathlib.Core.Path.{◌≡◌, ap, ◌∙◌}
-use Prim.Native.Nat.{ℕ, ◌+◌, ◌*◌, ◌^◌, ◌<◌}
+use Prim.Native.Nat.{◌+◌, ◌*◌}
 use lib.Dec.{lit<}
 use Rattle.word64.specs.Width.{W}
 use Rattle.rules.specs.Fields.{load_of}

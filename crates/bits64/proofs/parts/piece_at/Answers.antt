@@ -1,6 +1,6 @@
 -- `piece_at`: a field within one word is its piece, whatever the significance. Assumes nothing.
 use native.Mathlib.Omega.{arith}
-use mathlib.Core.Path.{◌≡◌, ap, ◌∙◌}
+use mathlib.Core.Path.{ap, ◌∙◌}
 use Prim.Native.Nat.{ℕ}
 use lib.Dec.{lit<}
 use Rattle.word64.specs.Width.{W}

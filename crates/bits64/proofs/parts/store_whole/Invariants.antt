@@ -1,14 +1,11 @@
 -- `store_whole`: the words passed hold the first bits of the number, the others are as they were. Assumes nothing.
-use native.Mathlib.Omega.{arith}
-use mathlib.Core.Path.{◌≡◌, refl, ap, ap₂, ◌∙◌}
-use Prim.Native.Nat.{ℕ, ◌+◌, ◌-◌, ◌*◌, ◌%◌, ◌^◌, ◌≤◌}
-use lib.Dec.{lit<}
-use lib.ListN.{length, set, length-set}
+use mathlib.Core.Path.{◌≡◌}
+use Prim.Native.Nat.{◌-◌, ◌*◌, ◌≤◌}
+use lib.ListN.{length}
 use Rattle.word64.specs.Width.{W}
 use Rattle.rules.specs.declared.Order.{Order}
 use Rattle.rules.specs.Fields.{store_of}
-use Rattle.laws.proofs.Fields.Cuts.{first_of_value, rest_of_value, first_all, store_none}
-use Rattle.laws.proofs.Words.Wholes.{store_more}
+use Rattle.laws.proofs.Fields.Cuts.{first_of_value}
 use Rattle.bits64.proofs.parts.store_whole.Given as goal
 
 abbrev pub invariant-loop-i : goal.invariant-loop-i

@@ -1,7 +1,7 @@
 -- `load_bits`: the first piece and the rest, joined. Assumes nothing.
 use native.Mathlib.Omega.{arith}
 use mathlib.Core.Path.{◌≡◌, sym, ap, ◌∙◌}
-use Prim.Native.Nat.{ℕ, ◌+◌, ◌-◌, ◌*◌, ◌^◌, ◌<◌, ◌≤◌}
+use Prim.Native.Nat.{◌+◌, ◌-◌, ◌*◌}
 use lib.Dec.{lit<}
 use Rattle.word8.specs.Width.{W}
 use Rattle.rules.specs.Fields.{load_of}

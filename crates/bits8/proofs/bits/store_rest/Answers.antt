@@ -1,6 +1,6 @@
 -- `store_rest`: the whole words stored and then the last piece are the rest of the field stored. Assumes nothing.
 use native.Mathlib.Omega.{arith}
-use mathlib.Core.Path.{◌≡◌, sym, ap, ap₂, ◌∙◌}
+use mathlib.Core.Path.{◌≡◌, ap, ap₂, ◌∙◌}
 use Prim.Native.Nat.{ℕ, ◌+◌, ◌*◌}
 use lib.Dec.{lit<}
 use Rattle.word8.specs.Width.{W}

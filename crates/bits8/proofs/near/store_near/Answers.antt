@@ -1,7 +1,7 @@
 -- `store_near`: the chunk with a piece put anew, or that and a piece of the word after it. Assumes nothing.
 use native.Mathlib.Omega.{arith}
 use mathlib.Core.Path.{◌≡◌, refl, sym, ap, ap₂, ◌∙◌}
-use Prim.Native.Nat.{ℕ, ◌+◌, ◌-◌, ◌*◌, ◌/◌, ◌^◌, ◌<◌, ◌≤◌}
+use Prim.Native.Nat.{ℕ, ◌+◌, ◌*◌, ◌/◌}
 use lib.Dec.{lit<}
 use lib.ListN.{length}
 use Rattle.word8.specs.Width.{W}

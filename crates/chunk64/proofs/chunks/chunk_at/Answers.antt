@@ -1,5 +1,5 @@
 -- `chunk_at`: a chunk is one word. Assumes nothing.
-use mathlib.Core.Path.{◌≡◌, sym, ◌∙◌}
+use mathlib.Core.Path.{sym, ◌∙◌}
 use lib.Dec.{lit<}
 use Rattle.laws.proofs.Fields.Chunk.{own}
 use Rattle.laws.proofs.Words.Wholes.{load_word}

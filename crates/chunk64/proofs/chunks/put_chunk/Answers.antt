@@ -1,6 +1,6 @@
 -- `put_chunk`: a chunk is one word. Assumes nothing.
 use native.Mathlib.Omega.{arith}
-use mathlib.Core.Path.{◌≡◌, ◌∙◌}
+use mathlib.Core.Path.{◌∙◌}
 use lib.Dec.{lit<}
 use Rattle.laws.proofs.Fields.Chunk.{own}
 use Rattle.laws.proofs.Words.Wholes.{store_word}

@@ -1,9 +1,7 @@
 -- `gather`: at each turn v is 0 exactly if the words passed are f. Assumes nothing.
-use native.Mathlib.Omega.{arith}
 use Prim.Native.Nat.{◌-◌, ◌≤◌}
 use lib.ListN.{length}
-use Rattle.laws.proofs.Searches.Alike.{Gathered, gathered_none, gathered_more}
-use mathlib.Core.Path.{◌≡◌}
+use Rattle.laws.proofs.Searches.Alike.{Gathered}
 use Rattle.search64.proofs.leaves.gather.Given as goal
 
 abbrev pub invariant-loop-i : goal.invariant-loop-i

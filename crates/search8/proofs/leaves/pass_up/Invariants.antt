@@ -1,7 +1,6 @@
 -- `pass_up`: the words passed are f, and the block that stops it is not. Assumes nothing.
-use native.Mathlib.Omega.{arith}
-use Prim.Native.Nat.{◌+◌, ◌-◌, ◌≤◌}
-use Rattle.laws.proofs.Searches.Alike.{Alike, alike_none, alike_join, block_alike, block_other}
+use Prim.Native.Nat.{◌-◌, ◌≤◌}
+use Rattle.laws.proofs.Searches.Alike.{Alike}
 use Rattle.search8.proofs.leaves.pass_up.Given as goal
 
 abbrev pub invariant-loop-i : goal.invariant-loop-i

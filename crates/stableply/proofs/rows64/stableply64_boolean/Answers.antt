@@ -1,5 +1,4 @@
 -- `stableply64_boolean`: a code that is none gives 255; else the promise is that of the call behind it, the arguments named.
-use borrow.Author.Tests.{lt-ltb, not-true, not-false}
 use mathlib.Core.Path.{sym, ◌∙◌}
 use Rattle.border.proofs.Naming.{first_none, later_none, all_named, no_operation_lem, an_operation}
 use Rattle.border.proofs.Crossing.{wrote_stopped, wrote}

@@ -1,5 +1,5 @@
 -- `mask`: a code that is none gives 255; else the promise is that of `wordless::mask`, the order named.
-use mathlib.Core.Path.{◌≡◌, ap, ◌∙◌}
+use mathlib.Core.Path.{ap, ◌∙◌}
 use borrow.Author.Tests.{lt-ltb, le-ltb}
 use Rattle.rules.specs.declared.Order.{Order}
 use Rattle.rules.specs.Bits.{bits}

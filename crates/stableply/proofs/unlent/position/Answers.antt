@@ -1,5 +1,5 @@
 -- `position`: a code that is none gives 255; else the promise is that of `wordless::position`, the order named.
-use mathlib.Core.Path.{◌≡◌, ap, ◌∙◌}
+use mathlib.Core.Path.{ap, ◌∙◌}
 use borrow.Author.Tests.{lt-ltb, le-ltb}
 use Rattle.rules.specs.declared.Order.{Order}
 use Rattle.rules.specs.Bits.{bits}

@@ -1,5 +1,5 @@
 -- `split`: a code that is none gives 255; else the promise is that of `Span::split`, the span named.
-use mathlib.Core.Path.{◌≡◌, ap, ◌∙◌}
+use mathlib.Core.Path.{ap, ◌∙◌}
 use borrow.Author.Tests.{lt-ltb, le-ltb}
 use Rattle.rules.specs.declared.Span.{Span}
 use Rattle.rules.specs.Bits.{bits}
