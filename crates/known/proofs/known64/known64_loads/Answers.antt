@@ -1,9 +1,7 @@
 -- `known64_loads`. The loop's invariant: the mix is that of the fields passed; the measure is how many are left. Assumes nothing.
 use borrow.Author.Tests.{lt-ltb}
-use mathlib.Core.Path.{◌≡◌, refl}
-use Prim.Native.Nat.{◌-◌, ◌≤◌}
+use mathlib.Core.Path.{refl}
 use native.Mathlib.Omega.{arith}
-use lib.ListN.{length}
 use Rattle.known.specs.Known.{mix_after}
 use Rattle.known.proofs.Turns.{load_more, mixed_all}
 use Rattle.known.proofs.known64.known64_loads.Goals as goal

@@ -1,10 +1,8 @@
 -- `known64_stores`. The loop's invariant: the words are those that the stores of the fields passed leave; the measure is how many are left. Assumes nothing.
 use borrow.Author.Rules.{rules}
 use borrow.Author.Tests.{lt-ltb}
-use mathlib.Core.Path.{◌≡◌, refl}
-use Prim.Native.Nat.{◌-◌, ◌≤◌}
+use mathlib.Core.Path.{refl}
 use native.Mathlib.Omega.{arith}
-use lib.ListN.{length}
 use Rattle.known.specs.Known.{stored_after}
 use Rattle.known.proofs.Turns.{store_more, stored_all}
 use Rattle.known.proofs.known64.known64_stores.Goals as goal
