@@ -1,4 +1,4 @@
-// A record's call on single bits and fields of 64-bit words, made through the exported functions with the record's arguments.
+// A record's call on single bits and fields of 64-bit words, made through the functions of `stableply` with the record's arguments.
 use records::arguments::{
     BELOW, BIT, HEAD, INDEX, K, LENGTH, ORDER, SIGN, SIGNIFICANCE, VALUE, WORD,
 };

@@ -1,4 +1,4 @@
-// A record's search of rows of 64-bit words, made through the exported functions with the record's arguments.
+// A record's search of rows of 64-bit words, made through the functions of `stableply` with the record's arguments.
 use records::arguments::{HEAD, LENGTH, ORDER, WORD};
 use records::calls::{FIRST_ONE, FIRST_ZERO, LAST_ONE};
 use records::parts::{call_of, code, size};

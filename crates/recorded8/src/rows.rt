@@ -1,4 +1,4 @@
-// A record's call on rows of 8-bit words, made through the exported functions with the record's arguments.
+// A record's call on rows of 8-bit words, made through the functions of `stableply` with the record's arguments.
 use records::arguments::{
     COUNT, DESTINATION, HEAD, LENGTH, OPERATION, ORDER, SECOND_HEAD, SECOND_LENGTH, SECOND_ORDER,
     SECOND_WORD, START, WORD,

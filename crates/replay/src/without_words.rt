@@ -1,4 +1,4 @@
-// A record's call without lent words, made through the exported functions with the record's arguments.
+// A record's call without lent words, made through the functions of `stableply` with the record's arguments.
 use records::arguments::{indexed, split};
 use records::calls::{MASK, POSITION, SELECTOR};
 use records::parts::{call_of, code, size};

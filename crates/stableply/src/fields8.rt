@@ -1,4 +1,4 @@
-// The exported calls on single bits and fields of rows of words of 8 bits.
+// The calls on single bits and fields of rows of words of 8 bits.
 ghost use Rattle.std.specs.Prelude.{◌||◌};
 ghost use Rattle.rules.specs.Fields.{whole};
 ghost use Rattle.rules.specs.Calls.{read_bit, write_bit, load, store, store_strict, answer};

@@ -1,4 +1,4 @@
-// The exported calls on rows of words of 64 bits.
+// The calls on rows of words of 64 bits.
 ghost use Rattle.std.specs.Prelude.{◌||◌};
 ghost use Rattle.rules.specs.Calls.{here, there, copy_from, copy_within, boolean, equal, answer};
 ghost use Rattle.border.specs.Border.{span_of, none, no_operation, behind, Told, Wrote, Swapped};

@@ -1,4 +1,4 @@
-// The exported searches of rows of words of 64 bits.
+// The searches of rows of words of 64 bits.
 ghost use Rattle.rules.specs.Calls.{find_first, find_last, answer};
 ghost use Rattle.border.specs.Border.{span_of, none, behind, Found};
 

@@ -1,4 +1,4 @@
-// The exported calls without lent words.
+// The calls without lent words.
 ghost use Rattle.std.specs.Prelude.{◌||◌};
 ghost use Rattle.rules.specs.Bits.{bits};
 ghost use Rattle.rules.specs.Calls.{position_answer, selector_answer, mask_answer, split_answer};

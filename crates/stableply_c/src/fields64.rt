@@ -102,7 +102,7 @@ pub extern "C" fn stableply64_store(
     )
 }
 
-// The same, but only for a value that fits. It stores by the call above, whose code is then in one place and whole.
+// The same, but only for a value that fits.
 #[unsafe(no_mangle)]
 pub extern "C" fn stableply64_store_strict(
     words: &mut [u64],
