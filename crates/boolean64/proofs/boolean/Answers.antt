@@ -1,36 +1,27 @@
 -- `boolean64::boolean` refuses by its table, and else combines as many bits as both sides have and then the rest of the left with none.
-use mathlib.Core.Path.{◌≡◌, refl, sym, ◌∙◌}
+use mathlib.Core.Path.{refl, sym, ◌∙◌}
 use Prim.Native.Nat.{ℕ, ◌+◌}
 use native.Mathlib.Omega.{arith}
-use lib.ListN.{length}
 use lib.Dec.{lit<}
 use Rattle.word64.specs.Width.{W}
-use Rattle.rules.specs.declared.Verdict.TheVariants.{Fine}
 use Rattle.rules.specs.Positions.{row, start}
-use Rattle.rules.specs.Refusals.{verdict, pair_cases}
 use Rattle.laws.proofs.Words.Combine.{until, until_in, until_out, combined_short}
-use Rattle.rules.proofs.Refusals.Accepted.{Pair, fine_pair}
+use Rattle.rules.proofs.Refusals.Accepted.{fine_pair}
 use Rattle.laws.proofs.Rows.RowCalls.{start_in, boolean_refused, boolean_done}
 use Rattle.rules.proofs.Refusals.OneAnswer.{judged}
 use Rattle.boolean64.proofs.boolean.Goals as goal
 
 pub start-d-requires : goal.start-d-requires
 start-d-requires c =
-    let fine : (let a = c.args in verdict (pair_cases W (length a.words.now) a.span (length a.right.now) a.right_span) ≡ Fine) = sym (judged c.check_pair-verdict.ensures) ∙ c.in-Fine.is in
-    let held : (let a = c.args in Pair W (length a.words.now) a.span (length a.right.now) a.right_span) = fine_pair W _ _ _ _ (fine) in
-    let h = held in let l = h.left in omega arith
+    let h = fine_pair W _ _ _ _ (sym (judged c.check_pair-verdict.ensures) ∙ c.in-Fine.is) in let l = h.left in omega arith
 
 pub start-s-requires : goal.start-s-requires
 start-s-requires c =
-    let fine : (let a = c.args in verdict (pair_cases W (length a.words.now) a.span (length a.right.now) a.right_span) ≡ Fine) = sym (judged c.check_pair-verdict.ensures) ∙ c.in-Fine.is in
-    let held : (let a = c.args in Pair W (length a.words.now) a.span (length a.right.now) a.right_span) = fine_pair W _ _ _ _ (fine) in
-    let h = held in let r = h.right in omega arith
+    let h = fine_pair W _ _ _ _ (sym (judged c.check_pair-verdict.ensures) ∙ c.in-Fine.is) in let r = h.right in omega arith
 
 pub between-requires : goal.between-requires
 between-requires c =
-    let fine : (let a = c.args in verdict (pair_cases W (length a.words.now) a.span (length a.right.now) a.right_span) ≡ Fine) = sym (judged c.check_pair-verdict.ensures) ∙ c.in-Fine.is in
-    let held : (let a = c.args in Pair W (length a.words.now) a.span (length a.right.now) a.right_span) = fine_pair W _ _ _ _ (fine) in
-    let h = held in
+    let h = fine_pair W _ _ _ _ (sym (judged c.check_pair-verdict.ensures) ∙ c.in-Fine.is) in
     let l = h.left in
     let r = h.right in
     let to = start_in W _ _ l c.start-d.ensures.0 in
@@ -38,9 +29,7 @@ between-requires c =
 
 pub overflow_add-d : goal.overflow_add-d
 overflow_add-d c =
-    let fine : (let a = c.args in verdict (pair_cases W (length a.words.now) a.span (length a.right.now) a.right_span) ≡ Fine) = sym (judged c.check_pair-verdict.ensures) ∙ c.in-Fine.is in
-    let held : (let a = c.args in Pair W (length a.words.now) a.span (length a.right.now) a.right_span) = fine_pair W _ _ _ _ (fine) in
-    let h = held in
+    let h = fine_pair W _ _ _ _ (sym (judged c.check_pair-verdict.ensures) ∙ c.in-Fine.is) in
     let l = h.left in
     let r = h.right in
     let to = start_in W _ _ l c.start-d.ensures.0 in
@@ -48,9 +37,7 @@ overflow_add-d c =
 
 pub rest-requires : goal.rest-requires
 rest-requires c =
-    let fine : (let a = c.args in verdict (pair_cases W (length a.words.now) a.span (length a.right.now) a.right_span) ≡ Fine) = sym (judged c.check_pair-verdict.ensures) ∙ c.in-Fine.is in
-    let held : (let a = c.args in Pair W (length a.words.now) a.span (length a.right.now) a.right_span) = fine_pair W _ _ _ _ (fine) in
-    let h = held in
+    let h = fine_pair W _ _ _ _ (sym (judged c.check_pair-verdict.ensures) ∙ c.in-Fine.is) in
     let l = h.left in
     let r = h.right in
     let to = start_in W _ _ l c.start-d.ensures.0 in
@@ -61,14 +48,12 @@ returns-in-Refused c = boolean_refused W (lit< tt) _ _ _ _ _ _ (sym (judged c.ch
 
 pub returns-in-Fine : goal.returns-in-Fine
 returns-in-Fine c =
-    let fine : (let a = c.args in verdict (pair_cases W (length a.words.now) a.span (length a.right.now) a.right_span) ≡ Fine) = sym (judged c.check_pair-verdict.ensures) ∙ c.in-Fine.is in
-    let held : (let a = c.args in Pair W (length a.words.now) a.span (length a.right.now) a.right_span) = fine_pair W _ _ _ _ (fine) in
     let a = c.args in
-    let h = held in
+    let h = fine_pair W _ _ _ _ (sym (judged c.check_pair-verdict.ensures) ∙ c.in-Fine.is) in
     let l = h.left in
     let to = start W a.span in
     let from : ℕ → ℕ = λ i. row W a.span.order a.right.now (start W a.right_span + i) in
-    boolean_done W (lit< tt) a.operation a.words.now a.span a.right.now a.right_span (until a.right_span.len from) (fine)
+    boolean_done W (lit< tt) a.operation a.words.now a.span a.right.now a.right_span (until a.right_span.len from) (sym (judged c.check_pair-verdict.ensures) ∙ c.in-Fine.is)
     (combined_short W (lit< tt) a.span.order a.words.now to a.operation a.span.len a.right_span.len c.least-m.result from c.least-m.ensures (start_in W _ _ l refl)
     (rw (c.start-d.ensures.0, c.start-s.ensures.0) at c.between.ensures) (rw c.start-d.ensures.0 at c.rest.ensures))
     (until_in a.right_span.len from) (until_out a.right_span.len from)

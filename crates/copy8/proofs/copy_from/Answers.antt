@@ -1,32 +1,23 @@
 -- `copy8::copy_from` refuses by its table, and else copies the row of one span to that of the other.
-use mathlib.Core.Path.{◌≡◌, refl, sym, ◌∙◌}
+use mathlib.Core.Path.{refl, sym, ◌∙◌}
 use native.Mathlib.Omega.{arith}
-use lib.ListN.{length}
 use Rattle.word8.specs.Width.{W}
-use Rattle.rules.specs.declared.Verdict.TheVariants.{Fine}
-use Rattle.rules.specs.Refusals.{verdict, copy_cases}
-use Rattle.rules.proofs.Refusals.Accepted.{Copy, fine_copy}
+use Rattle.rules.proofs.Refusals.Accepted.{fine_copy}
 use Rattle.laws.proofs.Rows.RowCalls.{start_in, copy_refused, copy_done}
 use Rattle.rules.proofs.Refusals.OneAnswer.{judged}
 use Rattle.copy8.proofs.copy_from.Goals as goal
 
 pub start-d-requires : goal.start-d-requires
 start-d-requires c =
-    let fine : (let a = c.args in verdict (copy_cases W (length a.words.now) a.span (length a.source.now) a.source_span) ≡ Fine) = sym (judged c.check_copy-verdict.ensures) ∙ c.in-Fine.is in
-    let held : (let a = c.args in Copy W (length a.words.now) a.span (length a.source.now) a.source_span) = fine_copy W _ _ _ _ (fine) in
-    let h = held in let p = h.pair in let l = p.left in omega arith
+    let h = fine_copy W _ _ _ _ (sym (judged c.check_copy-verdict.ensures) ∙ c.in-Fine.is) in let p = h.pair in let l = p.left in omega arith
 
 pub start-s-requires : goal.start-s-requires
 start-s-requires c =
-    let fine : (let a = c.args in verdict (copy_cases W (length a.words.now) a.span (length a.source.now) a.source_span) ≡ Fine) = sym (judged c.check_copy-verdict.ensures) ∙ c.in-Fine.is in
-    let held : (let a = c.args in Copy W (length a.words.now) a.span (length a.source.now) a.source_span) = fine_copy W _ _ _ _ (fine) in
-    let h = held in let p = h.pair in let r = p.right in omega arith
+    let h = fine_copy W _ _ _ _ (sym (judged c.check_copy-verdict.ensures) ∙ c.in-Fine.is) in let p = h.pair in let r = p.right in omega arith
 
 pub copy_row-requires : goal.copy_row-requires
 copy_row-requires c =
-    let fine : (let a = c.args in verdict (copy_cases W (length a.words.now) a.span (length a.source.now) a.source_span) ≡ Fine) = sym (judged c.check_copy-verdict.ensures) ∙ c.in-Fine.is in
-    let held : (let a = c.args in Copy W (length a.words.now) a.span (length a.source.now) a.source_span) = fine_copy W _ _ _ _ (fine) in
-    let h = held in
+    let h = fine_copy W _ _ _ _ (sym (judged c.check_copy-verdict.ensures) ∙ c.in-Fine.is) in
     let p = h.pair in
     let l = p.left in
     let r = p.right in
@@ -38,6 +29,5 @@ returns-in-Refused c = copy_refused W _ _ _ _ _ (sym (judged c.check_copy-verdic
 
 pub returns-in-Fine : goal.returns-in-Fine
 returns-in-Fine c =
-    let fine : (let a = c.args in verdict (copy_cases W (length a.words.now) a.span (length a.source.now) a.source_span) ≡ Fine) = sym (judged c.check_copy-verdict.ensures) ∙ c.in-Fine.is in
     let a = c.args in
-    copy_done W a.words.now a.span a.source.now a.source_span (fine) (rw (c.start-d.ensures.0, c.start-s.ensures.0) at c.copy_row.ensures)
+    copy_done W a.words.now a.span a.source.now a.source_span (sym (judged c.check_copy-verdict.ensures) ∙ c.in-Fine.is) (rw (c.start-d.ensures.0, c.start-s.ensures.0) at c.copy_row.ensures)

@@ -1,28 +1,20 @@
 -- `store`: accepted, the low bits of the value are stored in bounds. Assumes nothing.
 use native.Mathlib.Omega.{arith}
-use mathlib.Core.Path.{◌≡◌, refl, sym, ◌∙◌}
-use lib.ListN.{length}
+use mathlib.Core.Path.{refl, sym, ◌∙◌}
 use Rattle.word8.specs.Width.{W}
-use Rattle.rules.specs.declared.Verdict.TheVariants.{Fine}
 use Rattle.rules.specs.Positions.{start}
-use Rattle.rules.specs.Fields.{whole}
-use Rattle.rules.specs.Refusals.{verdict, store_cases}
-use Rattle.rules.proofs.Refusals.Accepted.{Store, fine_store}
+use Rattle.rules.proofs.Refusals.Accepted.{fine_store}
 use Rattle.laws.proofs.Fields.FieldCalls.{store_refused, store_done}
 use Rattle.rules.proofs.Refusals.OneAnswer.{judged}
 use Rattle.field8.proofs.store.Goals as goal
 
 pub bits-v-requires : goal.bits-v-requires
 bits-v-requires c =
-    let fine : (let a = c.args in verdict (store_cases W (length a.words.now) a.span a.k a.sign (whole a.value)) ≡ Fine) = sym (judged c.check_store-verdict.ensures) ∙ c.in-Fine.is in
-    let held : (let a = c.args in Store W (length a.words.now) a.span a.k a.sign (whole a.value)) = fine_store W _ _ _ _ _ (fine) in
-    let v = (held).valued in let z = v.sized in (omega arith, omega arith, v.integer)
+    let v = (fine_store W _ _ _ _ _ (sym (judged c.check_store-verdict.ensures) ∙ c.in-Fine.is)).valued in let z = v.sized in (omega arith, omega arith, v.integer)
 
 pub store_by-requires : goal.store_by-requires
 store_by-requires c =
-    let fine : (let a = c.args in verdict (store_cases W (length a.words.now) a.span a.k a.sign (whole a.value)) ≡ Fine) = sym (judged c.check_store-verdict.ensures) ∙ c.in-Fine.is in
-    let held : (let a = c.args in Store W (length a.words.now) a.span a.k a.sign (whole a.value)) = fine_store W _ _ _ _ _ (fine) in
-    let h = held in let i = h.lies in let z = h.valued.sized in (i.starts, omega arith, omega arith, i.ends)
+    let h = fine_store W _ _ _ _ _ (sym (judged c.check_store-verdict.ensures) ∙ c.in-Fine.is) in let i = h.lies in let z = h.valued.sized in (i.starts, omega arith, omega arith, i.ends)
 
 pub returns-in-Refused : goal.returns-in-Refused
 returns-in-Refused c = store_refused W _ _ _ _ _ _ (sym (judged c.check_store-verdict.ensures) ∙ c.in-Refused.is) refl
@@ -30,6 +22,4 @@ returns-in-Refused c = store_refused W _ _ _ _ _ _ (sym (judged c.check_store-ve
 pub returns-in-Fine : goal.returns-in-Fine
 unfolding start
 returns-in-Fine c =
-    let fine : (let a = c.args in verdict (store_cases W (length a.words.now) a.span a.k a.sign (whole a.value)) ≡ Fine) = sym (judged c.check_store-verdict.ensures) ∙ c.in-Fine.is in
-    let held : (let a = c.args in Store W (length a.words.now) a.span a.k a.sign (whole a.value)) = fine_store W _ _ _ _ _ (fine) in
-    store_done W _ _ _ _ _ _ (fine) (omega arith) (held).valued.sized.fitting _ c.bits-v.ensures c.store_by.ensures
+    store_done W _ _ _ _ _ _ (sym (judged c.check_store-verdict.ensures) ∙ c.in-Fine.is) (omega arith) (fine_store W _ _ _ _ _ (sym (judged c.check_store-verdict.ensures) ∙ c.in-Fine.is)).valued.sized.fitting _ c.bits-v.ensures c.store_by.ensures

@@ -1,32 +1,23 @@
 -- `swap64::swap` refuses by its table, and else exchanges the rows of the two spans.
-use mathlib.Core.Path.{◌≡◌, sym, ◌∙◌}
+use mathlib.Core.Path.{sym, ◌∙◌}
 use native.Mathlib.Omega.{arith}
-use lib.ListN.{length}
 use Rattle.word64.specs.Width.{W}
-use Rattle.rules.specs.declared.Verdict.TheVariants.{Fine}
-use Rattle.rules.specs.Refusals.{verdict, copy_cases}
-use Rattle.rules.proofs.Refusals.Accepted.{Copy, fine_copy}
+use Rattle.rules.proofs.Refusals.Accepted.{fine_copy}
 use Rattle.laws.proofs.Rows.RowCalls.{start_in, swap_refused, swap_done}
 use Rattle.rules.proofs.Refusals.OneAnswer.{judged}
 use Rattle.swap64.proofs.swap.Goals as goal
 
 pub start-d-requires : goal.start-d-requires
 start-d-requires c =
-    let fine : (let a = c.args in verdict (copy_cases W (length a.left.now) a.left_span (length a.right.now) a.right_span) ≡ Fine) = sym (judged c.check_copy-verdict.ensures) ∙ c.in-Fine.is in
-    let held : (let a = c.args in Copy W (length a.left.now) a.left_span (length a.right.now) a.right_span) = fine_copy W _ _ _ _ (fine) in
-    let h = held in let p = h.pair in let l = p.left in omega arith
+    let h = fine_copy W _ _ _ _ (sym (judged c.check_copy-verdict.ensures) ∙ c.in-Fine.is) in let p = h.pair in let l = p.left in omega arith
 
 pub start-s-requires : goal.start-s-requires
 start-s-requires c =
-    let fine : (let a = c.args in verdict (copy_cases W (length a.left.now) a.left_span (length a.right.now) a.right_span) ≡ Fine) = sym (judged c.check_copy-verdict.ensures) ∙ c.in-Fine.is in
-    let held : (let a = c.args in Copy W (length a.left.now) a.left_span (length a.right.now) a.right_span) = fine_copy W _ _ _ _ (fine) in
-    let h = held in let p = h.pair in let r = p.right in omega arith
+    let h = fine_copy W _ _ _ _ (sym (judged c.check_copy-verdict.ensures) ∙ c.in-Fine.is) in let p = h.pair in let r = p.right in omega arith
 
 pub swap_row-requires : goal.swap_row-requires
 swap_row-requires c =
-    let fine : (let a = c.args in verdict (copy_cases W (length a.left.now) a.left_span (length a.right.now) a.right_span) ≡ Fine) = sym (judged c.check_copy-verdict.ensures) ∙ c.in-Fine.is in
-    let held : (let a = c.args in Copy W (length a.left.now) a.left_span (length a.right.now) a.right_span) = fine_copy W _ _ _ _ (fine) in
-    let h = held in
+    let h = fine_copy W _ _ _ _ (sym (judged c.check_copy-verdict.ensures) ∙ c.in-Fine.is) in
     let p = h.pair in
     let l = p.left in
     let r = p.right in
@@ -38,7 +29,6 @@ returns-in-Refused c = swap_refused W _ _ _ _ _ (sym (judged c.check_copy-verdic
 
 pub returns-in-Fine : goal.returns-in-Fine
 returns-in-Fine c =
-    let fine : (let a = c.args in verdict (copy_cases W (length a.left.now) a.left_span (length a.right.now) a.right_span) ≡ Fine) = sym (judged c.check_copy-verdict.ensures) ∙ c.in-Fine.is in
     let a = c.args in
     let swapped = rw (c.start-d.ensures.0, c.start-s.ensures.0) at c.swap_row.ensures in
-    swap_done W a.left.now a.left_span a.right.now a.right_span (fine) swapped.0 swapped.1
+    swap_done W a.left.now a.left_span a.right.now a.right_span (sym (judged c.check_copy-verdict.ensures) ∙ c.in-Fine.is) swapped.0 swapped.1

@@ -1,12 +1,16 @@
 -- `load_bits`: the first piece and the rest, joined. Assumes nothing.
 use native.Mathlib.Omega.{arith}
 use mathlib.Core.Path.{◌≡◌, sym, ap, ◌∙◌}
-use Prim.Native.Nat.{◌+◌, ◌-◌, ◌*◌}
+use Prim.Native.Nat.{ℕ, ◌+◌, ◌-◌, ◌*◌}
 use lib.Dec.{lit<}
 use Rattle.word64.specs.Width.{W}
 use Rattle.rules.specs.Fields.{load_of}
-use Rattle.laws.proofs.Fields.Cuts.{joined, load_fits, load_rest}
+use Rattle.laws.proofs.Fields.Cuts.{Cuts, joined, load_fits, load_rest}
 use Rattle.bits64.proofs.bits.load_bits.Goals as goal
+
+-- what is left of a field after its first piece
+rest : {word head len first whole last : ℕ} → Cuts word head len first whole last → whole * word + last ≡ len - first
+rest k = let a = k.all in omega arith
 
 pub load_rest-b-requires : goal.load_rest-b-requires
 load_rest-b-requires c = let k = c.across-cut.ensures.all in
@@ -16,17 +20,15 @@ load_rest-b-requires c = let k = c.across-cut.ensures.all in
 
 pub join-requires : goal.join-requires
 join-requires c =
-    let rest : (let r = c.across-cut.result in r.whole * W + r.last ≡ c.args.len - r.first) = let k = c.across-cut.ensures.all in omega arith in
-    let r = rest in
+    let r = rest c.across-cut.ensures in
     (omega arith, omega arith, omega arith, c.piece_at-a.ensures.1, rw (← r) c.load_rest-b.ensures.1)
 
 pub returns : goal.returns
 returns c =
-    let rest : (let r = c.across-cut.result in r.whole * W + r.last ≡ c.args.len - r.first) = let k = c.across-cut.ensures.all in omega arith in
     let a = c.args in
     let r = c.across-cut.result in
     let m = r.whole * W + r.last in
-    let e = rest in
+    let e = rest c.across-cut.ensures in
     let w = c.across-cut.ensures.all in
     load_fits W (lit< tt) a.order a.significance a.words.now (a.word * W + a.head.0) a.len
     (c.join.ensures ∙ ap (joined a.significance c.piece_at-a.result r.first c.load_rest-b.result) (sym e)

@@ -1,7 +1,7 @@
 -- `load_by`: in each arm the order and the significance are its constants. Assumes nothing.
 use native.Mathlib.Omega.{arith}
 use mathlib.Core.Path.{refl}
-use Prim.Native.Nat.{◌+◌, ◌≤◌, ◌<◌}
+use Prim.Native.Nat.{◌+◌, ◌≤◌}
 use Rattle.word64.specs.Width.{W}
 use Rattle.laws.proofs.Fields.Chunk.{own}
 use Rattle.bits64.proofs.pairings.load_by.Goals as goal
@@ -23,18 +23,15 @@ load_near-requires c = let p = c.requires in
 
 pub load_bits-requires : goal.load_bits-requires
 load_bits-requires c =
-    let beyond : (let a = c.args in W < a.head.0 + a.len) = c.ends_within-one.ensures.1 c.if-one.false in
-    let p = c.requires in (p.0, beyond, p.2, p.3)
+    let p = c.requires in (p.0, (c.ends_within-one.ensures.1 c.if-one.false), p.2, p.3)
 
 pub load_bits-requires-in-Be : goal.load_bits-requires-in-Be
 load_bits-requires-in-Be c =
-    let beyond : (let a = c.args in W < a.head.0 + a.len) = c.ends_within-one.ensures.1 c.if-one.false in
-    let p = c.requires in (p.0, beyond, p.2, p.3)
+    let p = c.requires in (p.0, (c.ends_within-one.ensures.1 c.if-one.false), p.2, p.3)
 
 pub load_bits-requires-in-Le-significance : goal.load_bits-requires-in-Le-significance
 load_bits-requires-in-Le-significance c =
-    let beyond : (let a = c.args in W < a.head.0 + a.len) = c.ends_within-one.ensures.1 c.if-one.false in
-    let p = c.requires in (p.0, beyond, p.2, p.3)
+    let p = c.requires in (p.0, (c.ends_within-one.ensures.1 c.if-one.false), p.2, p.3)
 
 pub load_near-requires-then-pays-2 : goal.load_near-requires-then-pays-2
 unfolding own
@@ -44,8 +41,7 @@ load_near-requires-then-pays-2 c = let p = c.requires in
 
 pub load_bits-requires-else-pays-2 : goal.load_bits-requires-else-pays-2
 load_bits-requires-else-pays-2 c =
-    let beyond : (let a = c.args in W < a.head.0 + a.len) = c.ends_within-one.ensures.1 c.if-one.false in
-    let p = c.requires in (p.0, beyond, p.2, p.3)
+    let p = c.requires in (p.0, (c.ends_within-one.ensures.1 c.if-one.false), p.2, p.3)
 
 pub returns-then-pays : goal.returns-then-pays
 returns-then-pays c = rw (c.in-Lsb0.is, c.in-Le.is) c.load_near.ensures

@@ -21,9 +21,8 @@ returns-then-first-len c = let a = c.args in
 
 pub piece_at-b-requires : goal.piece_at-b-requires
 piece_at-b-requires c =
-    let edge : (c.args.head.0 + c.of-cut.result.first ≡ chunk) = let k = c.of-cut.ensures.all in c.of-cut.ensures.edge (omega arith) in
-    let e = edge in
     let k = c.of-cut.ensures.all in
+    let e = c.of-cut.ensures.edge (omega arith) in
     (omega arith, omega arith, omega arith)
 
 pub join-requires : goal.join-requires
@@ -32,13 +31,12 @@ join-requires c = let k = c.of-cut.ensures.all in
 
 pub returns : goal.returns
 returns c =
-    let edge : (c.args.head.0 + c.of-cut.result.first ≡ chunk) = let k = c.of-cut.ensures.all in c.of-cut.ensures.edge (omega arith) in
     let a = c.args in
     let r = c.of-cut.result in
     let o = a.order in
     let s = c.requires.5 in
     let cuts = c.of-cut.ensures.all in
-    let e = edge in
+    let e = c.of-cut.ensures.edge (omega arith) in
     let all : r.first + r.last ≡ a.len = omega arith in
     load_fits W (lit< tt) o a.significance a.words.now (a.word * W + a.head.0) a.len
     (c.join.ensures ∙ ap (λ (e : Significance). joined e c.piece-a.result r.first c.piece_at-b.result r.last) s

@@ -1,7 +1,5 @@
 -- `check_field`: the tests are the rows of the table in their order.
-use mathlib.Core.Path.{◌≡◌, sym, ◌∙◌}
-use mathlib.Core.Bool.{true}
-use Rattle.rules.specs.Fields.{is_size}
+use mathlib.Core.Path.{sym, ◌∙◌}
 use Rattle.rules.proofs.Refusals.Tables.{no_such_K, empty_field, long_field, field_fine}
 use Rattle.rules.proofs.Refusals.OneAnswer.{judges}
 use Rattle.refusals.proofs.values.check_field.Goals as goal
@@ -11,15 +9,12 @@ returns-then-not-sized c = judges (sym (no_such_K _ _ (sym c.is_size-sized.ensur
 
 pub returns-then-len-eq0 : goal.returns-then-len-eq0
 returns-then-len-eq0 c =
-    let sized : is_size c.args.k ≡ true = sym c.is_size-sized.ensures ∙ c.if-not-sized.false in
-    judges (sym (empty_field _ _ (sized) c.if-len-eq0.true))
+    judges (sym (empty_field _ _ (sym c.is_size-sized.ensures ∙ c.if-not-sized.false) c.if-len-eq0.true))
 
 pub returns-then-k-len : goal.returns-then-k-len
 returns-then-k-len c =
-    let sized : is_size c.args.k ≡ true = sym c.is_size-sized.ensures ∙ c.if-not-sized.false in
-    judges (sym (long_field _ _ (sized) c.if-k-len.true))
+    judges (sym (long_field _ _ (sym c.is_size-sized.ensures ∙ c.if-not-sized.false) c.if-k-len.true))
 
 pub returns : goal.returns
 returns c =
-    let sized : is_size c.args.k ≡ true = sym c.is_size-sized.ensures ∙ c.if-not-sized.false in
-    judges (sym (field_fine _ _ (sized) c.if-len-eq0.false c.if-k-len.false))
+    judges (sym (field_fine _ _ (sym c.is_size-sized.ensures ∙ c.if-not-sized.false) c.if-len-eq0.false c.if-k-len.false))

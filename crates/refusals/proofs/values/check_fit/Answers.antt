@@ -1,10 +1,8 @@
 -- `check_fit`: the value's table, then the row of refusal 9.
-use mathlib.Core.Path.{◌≡◌, sym, ap, ◌∙◌}
+use mathlib.Core.Path.{sym, ap, ◌∙◌}
 use mathlib.Core.Bool.{not}
 use native.Mathlib.Omega.{arith}
-use Rattle.rules.specs.declared.Verdict.TheVariants.{Fine}
-use Rattle.rules.specs.Fields.{whole}
-use Rattle.rules.specs.Refusals.{verdict, value_cases, fitting_cases}
+use Rattle.rules.specs.Refusals.{fitting_cases}
 use Rattle.rules.proofs.Refusals.Tables.{stops, last_holds, last_clear}
 use Rattle.rules.proofs.Refusals.Accepted.{fine_valued}
 use Rattle.rules.proofs.Refusals.OneAnswer.{judged, judges}
@@ -12,8 +10,7 @@ use Rattle.refusals.proofs.values.check_fit.Goals as goal
 
 pub fits-small-requires : goal.fits-small-requires
 fits-small-requires c =
-    let fine : verdict ((let a = c.args in value_cases a.k a.len a.sign (whole a.value))) ≡ Fine = sym (judged c.check_value-verdict.ensures) ∙ c.in-Fine.is in
-    let v = fine_valued _ _ _ _ (fine) in let s = v.sized in (omega arith, omega arith)
+    let v = fine_valued _ _ _ _ (sym (judged c.check_value-verdict.ensures) ∙ c.in-Fine.is) in let s = v.sized in (omega arith, omega arith)
 
 pub returns-in-Refused : goal.returns-in-Refused
 unfolding fitting_cases
@@ -22,11 +19,9 @@ returns-in-Refused c = judges (sym (stops _ _ (sym (judged c.check_value-verdict
 pub returns-then-small : goal.returns-then-small
 unfolding fitting_cases
 returns-then-small c =
-    let fine : verdict ((let a = c.args in value_cases a.k a.len a.sign (whole a.value))) ≡ Fine = sym (judged c.check_value-verdict.ensures) ∙ c.in-Fine.is in
-    judges (sym (last_clear _ _ _ (fine) (ap not (sym c.fits-small.ensures ∙ c.if-small.true))))
+    judges (sym (last_clear _ _ _ (sym (judged c.check_value-verdict.ensures) ∙ c.in-Fine.is) (ap not (sym c.fits-small.ensures ∙ c.if-small.true))))
 
 pub returns-else-small : goal.returns-else-small
 unfolding fitting_cases
 returns-else-small c =
-    let fine : verdict ((let a = c.args in value_cases a.k a.len a.sign (whole a.value))) ≡ Fine = sym (judged c.check_value-verdict.ensures) ∙ c.in-Fine.is in
-    judges (sym (last_holds _ _ _ (fine) (ap not (sym c.fits-small.ensures ∙ c.if-small.false))))
+    judges (sym (last_holds _ _ _ (sym (judged c.check_value-verdict.ensures) ∙ c.in-Fine.is) (ap not (sym c.fits-small.ensures ∙ c.if-small.false))))

@@ -1,6 +1,4 @@
 -- `fits`: as `is_integer`, with the length for K; of a number below 0 the magnitude is tested.
-use Prim.Native.Nat.{◌-◌, ◌/◌, ◌^◌}
-use mathlib.Core.Path.{◌≡◌}
 use lib.Pow.{pow_pos}
 use Rattle.rules.specs.Fields.{fits}
 use Rattle.laws.proofs.Bits.Bounds.{upto, under, half_ones}
@@ -9,8 +7,7 @@ use Rattle.refusals.proofs.values.fits.Goals as goal
 pub returns-in-Up : goal.returns-in-Up
 unfolding fits
 returns-in-Up c =
-    let top : c.low_ones-top.result ≡ 2 ^ c.args.len - 1 = c.low_ones-top.ensures in
-    rw (c.in-Unsigned.is, c.in-Up.is) (upto _ (top) (pow_pos _))
+    rw (c.in-Unsigned.is, c.in-Up.is) (upto _ (c.low_ones-top.ensures) (pow_pos _))
 
 pub returns-in-Down : goal.returns-in-Down
 unfolding fits
@@ -19,11 +16,9 @@ returns-in-Down c = rw (c.in-Unsigned.is, c.in-Down.is)
 pub returns-in-Up-value : goal.returns-in-Up-value
 unfolding fits
 returns-in-Up-value c =
-    let half : c.low_ones-top.result / 2 ≡ 2 ^ (c.args.len - 1) - 1 = half_ones c.args.len c.requires.0 c.low_ones-top.ensures in
-    rw (c.in-Signed.is, c.in-Up-value.is) (upto _ (half) (pow_pos _))
+    rw (c.in-Signed.is, c.in-Up-value.is) (upto _ (half_ones c.args.len c.requires.0 c.low_ones-top.ensures) (pow_pos _))
 
 pub returns-in-Down-value : goal.returns-in-Down-value
 unfolding fits
 returns-in-Down-value c =
-    let half : c.low_ones-top.result / 2 ≡ 2 ^ (c.args.len - 1) - 1 = half_ones c.args.len c.requires.0 c.low_ones-top.ensures in
-    rw (c.in-Signed.is, c.in-Down-value.is) (under _ _ (half))
+    rw (c.in-Signed.is, c.in-Down-value.is) (under _ _ (half_ones c.args.len c.requires.0 c.low_ones-top.ensures))

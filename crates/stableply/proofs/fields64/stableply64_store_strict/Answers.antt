@@ -1,12 +1,8 @@
 -- `stableply64_store_strict`: a code that is none gives 255, a refusal its number; what strict store accepts, store leaves as it asks.
 use borrow.Author.Tests.{lt-ltb, le-ltb}
-use mathlib.Core.Path.{◌≡◌, refl, sym, ◌∙◌}
-use mathlib.Core.Bool.{false, ◌||◌}
-use lib.ListN.{length}
-use Rattle.rules.specs.Fields.{whole}
-use Rattle.rules.specs.Refusals.{verdict, store_strict_cases}
+use mathlib.Core.Path.{refl, sym, ◌∙◌}
 use Rattle.laws.proofs.Fields.FieldCalls.{strict_refused, strict_by_store}
-use Rattle.border.specs.Border.{span_of, significance_of, sign_of, number_of, none}
+use Rattle.border.specs.Border.{significance_of}
 use Rattle.border.proofs.Naming.{first_none, later_none, all_named}
 use Rattle.border.proofs.Crossing.{wrote_stopped, wrote, wrote_as}
 use Rattle.rules.proofs.Refusals.OneAnswer.{judged}
@@ -26,15 +22,14 @@ returns-then-below-gt1 c = wrote_stopped _ _ _ (later_none _ _ c.if-order-gt1.fa
 
 pub returns-in-Refused : goal.returns-in-Refused
 returns-in-Refused c =
-    let checked : (let a = c.args in c.check_store_strict-verdict.result ≡ verdict (store_strict_cases 64 (length a.words.now) (span_of a.order a.word a.head a.length) a.k (sign_of a.sign) (whole (number_of a.below a.value)))) = rw (c.span_of-span.ensures, c.sign_of-named.ensures, c.number_of-number.ensures) at (judged c.check_store_strict-verdict.ensures) in
-    let named : (let a = c.args in (none a.order || (none a.significance || (none a.sign || none a.below))) ≡ false) = all_named _ _ c.if-order-gt1.false (all_named _ _ c.if-significance-gt1.false (all_named _ _ c.if-sign-gt1.false (le-ltb _ _ c.if-below-gt1.false))) in
+    let checked = rw (c.span_of-span.ensures, c.sign_of-named.ensures, c.number_of-number.ensures) at (judged c.check_store_strict-verdict.ensures) in
     let a = c.args in
-    let h = strict_refused 64 a.words.now _ a.k (significance_of a.significance) _ _ (sym (checked) ∙ c.in-Refused.is) refl in
-    wrote _ _ _ (named) c.number.ensures h
+    let h = strict_refused 64 a.words.now _ a.k (significance_of a.significance) _ _ (sym checked ∙ c.in-Refused.is) refl in
+    wrote _ _ _ (all_named _ _ c.if-order-gt1.false (all_named _ _ c.if-significance-gt1.false (all_named _ _ c.if-sign-gt1.false (le-ltb _ _ c.if-below-gt1.false)))) c.number.ensures h
 
 pub returns-in-Fine : goal.returns-in-Fine
 returns-in-Fine c =
-    let checked : (let a = c.args in c.check_store_strict-verdict.result ≡ verdict (store_strict_cases 64 (length a.words.now) (span_of a.order a.word a.head a.length) a.k (sign_of a.sign) (whole (number_of a.below a.value)))) = rw (c.span_of-span.ensures, c.sign_of-named.ensures, c.number_of-number.ensures) at (judged c.check_store_strict-verdict.ensures) in
+    let checked = rw (c.span_of-span.ensures, c.sign_of-named.ensures, c.number_of-number.ensures) at (judged c.check_store_strict-verdict.ensures) in
     let a = c.args in
-    let q = strict_by_store 64 a.words.now _ a.k (significance_of a.significance) _ _ (sym (checked) ∙ c.in-Fine.is) in
+    let q = strict_by_store 64 a.words.now _ a.k (significance_of a.significance) _ _ (sym checked ∙ c.in-Fine.is) in
     wrote_as q.0 q.1 c.stableply64_store.ensures
