@@ -8,8 +8,8 @@ use Rattle.rules.specs.declared.Significance.TheVariants.{Be}
 use Rattle.rules.specs.declared.Sign.TheVariants.{Signed}
 use Rattle.rules.specs.declared.Number.{Number}
 use Rattle.rules.specs.declared.Number.TheVariants.{Up, Down}
-use Rattle.rules.specs.declared.NumberAnswer.{NumberAnswer}
-use Rattle.rules.specs.declared.NumberAnswer.TheVariants.{Is}
+use Rattle.rules.specs.declared.Refusal.{Refusal}
+use Rattle.std.specs.Prelude.{Result, Ok}
 use Rattle.rules.specs.Fields.{bits_of}
 use Rattle.rules.specs.Answers.{number_says}
 use Rattle.border.specs.Border.{order_of, significance_of, sign_of, number_of, bit_of, no_width, none, Told}
@@ -51,11 +51,11 @@ module _ (code : ℕ) (some : code ≡ 0 → ⊥) where
       go (suc c) h = refl
 
 -- what leaves of a number
-pub leaves_up : {a : NumberAnswer} {v : Number} {n old : ℕ} → a ≡ Is v → v ≡ Up n → Told (number_says a) old 0 n
+pub leaves_up : {a : Result Number Refusal} {v : Number} {n old : ℕ} → a ≡ Ok v → v ≡ Up n → Told (number_says a) old 0 n
 unfolding bits_of
 leaves_up e d = rw (e, d) (record { number = refl; value = refl })
 
-pub leaves_down : {a : NumberAnswer} {v : Number} {n old : ℕ} → a ≡ Is v → v ≡ Down n → Told (number_says a) old 0 (2 ^ 64 - 1 - n)
+pub leaves_down : {a : Result Number Refusal} {v : Number} {n old : ℕ} → a ≡ Ok v → v ≡ Down n → Told (number_says a) old 0 (2 ^ 64 - 1 - n)
 unfolding bits_of
 leaves_down e d = rw (e, d) (record { number = refl; value = refl })
 

@@ -1,6 +1,8 @@
 -- The border to C: which order, sign and so on a code names, and how an answer leaves: as a number, and as what stands behind a pointer.
 -- Cited by the promise of every exported call. Assumes nothing.
-use Rattle.std.specs.Prelude.{ℕ, zero, suc, ◌≡◌, Bool, true, false, ◌||◌, not, List, [], ◌∷◌, get_or, eqb, ltb}
+use Rattle.std.specs.Prelude.{ℕ, zero, suc, ◌≡◌, Bool, true, false, ◌||◌, not, List, [], ◌∷◌, get_or, cond, eqb, ltb}
+use Rattle.rules.specs.declared.Width.{Width}
+use Rattle.rules.specs.declared.Width.TheVariants.{W8, W64}
 use Rattle.rules.specs.declared.Order.{Order}
 use Rattle.rules.specs.declared.Order.TheVariants.{Lsb0, Msb0}
 use Rattle.rules.specs.declared.Significance.{Significance}
@@ -9,6 +11,8 @@ use Rattle.rules.specs.declared.Sign.{Sign}
 use Rattle.rules.specs.declared.Sign.TheVariants.{Unsigned, Signed}
 use Rattle.rules.specs.declared.Number.{Number}
 use Rattle.rules.specs.declared.Number.TheVariants.{Up, Down}
+use Rattle.rules.specs.declared.Operation.{Operation}
+use Rattle.rules.specs.declared.Operation.TheVariants.{And, Or, Xor}
 use Rattle.rules.specs.declared.Span.{Span}
 use Rattle.rules.specs.Positions.{span}
 use Rattle.rules.specs.Fields.{bits_of}
@@ -43,6 +47,14 @@ bit_of (suc c) = true
 -- a span's four arguments
 abbrev pub span_of : ℕ → ℕ → ℕ → ℕ → Span
 span_of order word head length = span (order_of order) word head length
+
+-- a width: 8, else 64
+abbrev pub width_of : ℕ → Width
+width_of width = cond (eqb width 8) W8 W64
+
+-- an operation, by the number of its truth table: 8 and, 14 or, else xor
+abbrev pub operation_of : ℕ → Operation
+operation_of operation = cond (eqb operation 8) And (cond (eqb operation 14) Or Xor)
 
 -- every code with two cases is 0 or 1
 abbrev pub none : ℕ → Bool

@@ -2,8 +2,7 @@
 ghost use Rattle.std.specs.Prelude.{◌≡◌};
 ghost use Rattle.known.specs.Known.{mixed, stored};
 
-use crate::taken::{field, mix_in, unsigned};
-use rules::{Number, Sign, Significance};
+use crate::taken::{loads, stores};
 
 // Loads the fields of k bits that begin at a head of a word each, and mixes their numbers. Where heads are missing, nothing is loaded.
 #[unsafe(no_mangle)]
@@ -16,18 +15,7 @@ pub extern "C" fn known8_loads(
 )
     ensures { mix.new ≡ mixed 8 k words.now places.now heads.now mix.old }
 {
-    if heads.len() < places.len() {
-        return;
-    }
-    let mut mixed: u64 = 0;
-    let mut i: usize = 0;
-    while i < places.len() {
-        let span = field(places[i], heads[i], k);
-        let answer = field8::load(words, span, k, Significance::Le, Sign::Unsigned);
-        mixed = mix_in(mixed, unsigned(answer));
-        i = i + 1;
-    }
-    *mix = mixed;
+    loads(words, places, heads, k, mix);
 }
 
 // Stores a value in each of them. Where heads are missing, nothing is stored.
@@ -41,20 +29,5 @@ pub extern "C" fn known8_stores(
 )
     ensures { words.new ≡ stored 8 k value words.old places.now heads.now }
 {
-    if heads.len() < places.len() {
-        return;
-    }
-    let mut i: usize = 0;
-    while i < places.len() {
-        let span = field(places[i], heads[i], k);
-        field8::store(
-            words,
-            span,
-            k,
-            Significance::Le,
-            Sign::Unsigned,
-            Number::Up(value),
-        );
-        i = i + 1;
-    }
+    stores(words, places, heads, k, value);
 }

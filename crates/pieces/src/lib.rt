@@ -13,7 +13,7 @@ pub const CHUNK: usize = 64;
 
 // A run of bits cut where words end: how many bits of the first word, how many whole words after it, how many bits of the last word. The
 // first piece is never empty; it ends with its word unless it is all.
-#[derive(Clone, Copy)]
+#[derive(Clone, Copy, Debug, PartialEq, Eq, Hash)]
 pub struct Cut {
     pub first: usize,
     pub whole: usize,

@@ -1,20 +1,11 @@
-// Which argument of a call stands where: indexes for `parts::number`, `parts::size` and `parts::code`. A call on lent words begins with how
-// many there are and a span in them; what follows depends on the call. Calls without lent words have modules of their own, at the end.
+// Which argument of a call stands where: indexes for the methods `number`, `size` and `code` of a record. A call on lent words begins with
+// how many there are and a span in them; what follows depends on the call. Calls without lent words have modules of their own, at the end.
 
 // How many words are lent, or lent first.
 pub const LENT: usize = 0;
 
-// The order of the span.
+// The order of the span, with which its arguments begin: then come its word, its head and its length.
 pub const ORDER: usize = 1;
-
-// The word where the span begins.
-pub const WORD: usize = 2;
-
-// The index in that word where the span begins.
-pub const HEAD: usize = 3;
-
-// How many bits the span has.
-pub const LENGTH: usize = 4;
 
 // The index in the span of a bit to read or write.
 pub const INDEX: usize = 5;
@@ -49,17 +40,8 @@ pub const DESTINATION: usize = 7;
 // How many words are lent second.
 pub const SECOND_LENT: usize = 5;
 
-// The order of the span in the words lent second.
+// The order of the span in the words lent second, with which its arguments begin.
 pub const SECOND_ORDER: usize = 6;
-
-// The word where that span begins.
-pub const SECOND_WORD: usize = 7;
-
-// The index in that word where it begins.
-pub const SECOND_HEAD: usize = 8;
-
-// How many bits it has.
-pub const SECOND_LENGTH: usize = 9;
 
 // The number of a boolean operation.
 pub const OPERATION: usize = 10;
@@ -90,18 +72,9 @@ pub mod split {
     // How many words the span may lie in.
     pub const LENT: usize = 1;
 
-    // The order of the span.
+    // The order of the span, with which its arguments begin.
     pub const ORDER: usize = 2;
 
-    // The word where the span begins.
-    pub const WORD: usize = 3;
-
-    // The index in that word where it begins.
-    pub const HEAD: usize = 4;
-
-    // How many bits it has.
-    pub const LENGTH: usize = 5;
-
-    // How many of them go to the first half.
+    // How many of its bits go to the first half.
     pub const PLACE: usize = 6;
 }

@@ -1,12 +1,16 @@
 // The file: how it begins, and its records one after another. A read that fails counts as the file's end.
-ghost use Rattle.std.specs.Prelude.{◌≤◌, length};
+ghost use Rattle.std.specs.Prelude.{◌≡◌, ◌≤◌, length};
+ghost use Rattle.records.specs.declared.input.Unread.{Unread};
 
+use crate::form::{Fault, length_of};
 use crate::numbers::{NUMBER_BYTES, number_at};
-use crate::parts::{FRONT_BYTES, length_of};
+use crate::record::{FRONT_BYTES, Record};
+use std::error::Error;
+use std::fmt;
 use std::io::Read;
 
-// The number that reads as the label STPLVEC1.
-const LABEL: u64 = 0x3143_4556_4c50_5453;
+// What a file of records begins with.
+const LABEL: &[u8; 8] = b"STPLVEC1";
 
 // How many bytes the file has in front of its records: the label, and how many records there are.
 const HEAD_BYTES: usize = 16;
@@ -17,47 +21,37 @@ pub const SHORTEST: usize = 40;
 // The length that no record passes, and so the length of a buffer for one.
 pub const LONGEST: usize = 216;
 
-// How a file begins: with the label and the number of its records, with too few bytes for them, or with something else.
-#[derive(Clone, Copy)]
-pub enum Start {
-    Records(u64),
+// Why a file is none of records: it has too few bytes for a head, or does not begin with the label.
+#[derive(Clone, Copy, Debug, PartialEq, Eq, Hash)]
+pub enum Unbegun {
     Short,
     Foreign,
 }
 
-// What comes next in the file: a record, one that is cut short, or one of a length that none has.
-#[derive(Clone, Copy)]
-pub enum Next {
-    Whole,
+// Why the next record cannot be had: it is cut short, has a length that no record has, or is malformed.
+#[derive(Clone, Copy, Debug, PartialEq, Eq, Hash)]
+pub enum Unread {
     Short,
     Unlikely(usize),
+    Malformed(Fault),
 }
 
-// Reads the file's head.
-pub fn begin(file: &mut impl Read) -> Start {
+// Reads the file's head, and gives how many records it announces.
+pub fn begin(file: &mut impl Read) -> Result<u64, Unbegun> {
     let mut bytes = [0u8; HEAD_BYTES];
     if read_full(file, &mut bytes) < HEAD_BYTES {
-        return Start::Short;
+        return Err(Unbegun::Short);
     }
-    if number_at(&bytes, 0) != LABEL {
-        return Start::Foreign;
+    if !bytes.starts_with(LABEL) {
+        return Err(Unbegun::Foreign);
     }
-    Start::Records(number_at(&bytes, NUMBER_BYTES))
+    Ok(number_at(&bytes, NUMBER_BYTES))
 }
 
-// Reads the next record into a buffer. Only after `Whole` is it there.
-pub fn take(file: &mut impl Read, record: &mut [u8]) -> Next {
-    if !is_front_read(file, record) {
-        return Next::Short;
-    }
-    let length = length_of(record);
-    if length < SHORTEST || record.len() < length {
-        return Next::Unlikely(length);
-    }
-    if !is_rest_read(file, record, length) {
-        return Next::Short;
-    }
-    Next::Whole
+// Reads the next record into a buffer of zeros.
+pub fn next<'a>(file: &mut impl Read, buffer: &'a mut [u8; LONGEST]) -> Result<Record<'a>, Unread> {
+    take(file, buffer)?;
+    Ok(Record::new(buffer)?)
 }
 
 // Whether the file ends here.
@@ -66,20 +60,22 @@ pub fn is_over(file: &mut impl Read) -> bool {
     read_full(file, &mut more) == 0
 }
 
-// Reads the first bytes of a record, which tell its length; false where they are not all there.
-fn is_front_read(file: &mut impl Read, record: &mut [u8]) -> bool {
-    if record.len() < FRONT_BYTES {
-        return false;
+// Reads the bytes of the next record: the first ones, which tell its length, and then as many more.
+fn take(file: &mut impl Read, buffer: &mut [u8; LONGEST]) -> Result<(), Unread> {
+    fill(file, &mut buffer[..FRONT_BYTES])?;
+    let length = length_of(buffer);
+    if length < SHORTEST || LONGEST < length {
+        return Err(Unread::Unlikely(length));
     }
-    read_full(file, &mut record[0..FRONT_BYTES]) == FRONT_BYTES
+    fill(file, &mut buffer[FRONT_BYTES..length])
 }
 
-// Reads the bytes after those up to the record's length; false where they are not all there.
-fn is_rest_read(file: &mut impl Read, record: &mut [u8], length: usize) -> bool {
-    if length < FRONT_BYTES || record.len() < length {
-        return false;
+// Reads until a buffer is full.
+fn fill(file: &mut impl Read, bytes: &mut [u8]) -> Result<(), Unread> {
+    if read_full(file, bytes) < bytes.len() {
+        return Err(Unread::Short);
     }
-    read_full(file, &mut record[FRONT_BYTES..length]) == length - FRONT_BYTES
+    Ok(())
 }
 
 // Reads until a buffer is full, the file ends or a read fails, and gives how many bytes it has put at the front of the buffer.
@@ -88,7 +84,7 @@ fn read_full(file: &mut impl Read, bytes: &mut [u8]) -> usize
 {
     let mut done = 0;
     while done < bytes.len() {
-        let more = read_some(file, &mut bytes[done..]);
+        let more = file.read(&mut bytes[done..]).unwrap_or(0);
         if more == 0 {
             break;
         }
@@ -97,9 +93,41 @@ fn read_full(file: &mut impl Read, bytes: &mut [u8]) -> usize
     done
 }
 
-// Reads once, and gives how many bytes that put at the front of the buffer: 0 at the file's end, or where the read fails.
-fn read_some(file: &mut impl Read, bytes: &mut [u8]) -> usize
-    ensures { result ≤ length bytes.new }
-{
-    file.read(bytes).unwrap_or(0)
+impl From<Fault> for Unread {
+    ghost from_gives = { λ fault e. e ≡ Unread.Malformed fault };
+
+    // A record that is malformed.
+    fn from(fault: Fault) -> Unread {
+        Unread::Malformed(fault)
+    }
 }
+
+impl fmt::Display for Unbegun {
+    // What the file is instead of one of records.
+    fn fmt<W: fmt::Write>(&self, f: &mut fmt::Formatter<W>) -> fmt::Result {
+        f.write_str(match self {
+            Unbegun::Short => "the file has no 16 bytes, or cannot be read",
+            Unbegun::Foreign => "the file does not begin with STPLVEC1",
+        })
+    }
+}
+
+impl Error for Unbegun {}
+
+impl fmt::Display for Unread {
+    // What is wrong with the record.
+    fn fmt<W: fmt::Write>(&self, f: &mut fmt::Formatter<W>) -> fmt::Result {
+        match self {
+            Unread::Short => f.write_str(
+                "is cut short: the file ends before or in it, or cannot be read further",
+            ),
+            Unread::Unlikely(length) => write!(
+                f,
+                "has a length of {length} bytes; the shortest has {SHORTEST}, the longest {LONGEST}"
+            ),
+            Unread::Malformed(fault) => write!(f, "{fault}"),
+        }
+    }
+}
+
+impl Error for Unread {}

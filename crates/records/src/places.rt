@@ -3,109 +3,129 @@
 ghost use Rattle.std.specs.Prelude.{◌≤◌};
 
 use crate::arguments::{LENT, SECOND_LENT};
-use crate::calls::{lends, lends_twice, results_of, writes, writes_both};
-use crate::numbers::{MOST_HELD, NUMBER_BYTES};
-use crate::parts::{call_of, results_at, size, width_of};
+use crate::numbers::{NUMBER_BYTES, number_at};
+use crate::record::Record;
 
-// How many words are lent first, 0 for a call without lent words.
-pub fn first_lent(record: &[u8]) -> usize {
-    if lends(call_of(record)) {
-        return size(record, LENT);
+// The most words of one buffer whose bytes a record holds. Where more are lent, all of them are 0 and have no bytes.
+const MOST_HELD: usize = 64;
+
+// The last place that words are read from. A record tells its length in two bytes, so that none reaches further.
+const LAST_PLACE: usize = 65535;
+
+// The width of the widest words.
+const WIDEST: usize = 64;
+
+impl Record<'_> {
+    // How many words are lent first, 0 for a call without lent words.
+    pub fn first_lent(self) -> usize {
+        if self.call().lends() {
+            self.size(LENT)
+        } else {
+            0
+        }
     }
-    0
-}
 
-// How many words are lent second, 0 for a call with one buffer or none.
-pub fn second_lent(record: &[u8]) -> usize {
-    if lends_twice(call_of(record)) {
-        return size(record, SECOND_LENT);
+    // How many words are lent second, 0 for a call with one buffer or none.
+    pub fn second_lent(self) -> usize {
+        if self.call().lends_twice() {
+            self.size(SECOND_LENT)
+        } else {
+            0
+        }
     }
-    0
-}
 
-// As many words as a record lends, but no more than there are: a well-formed record asks for no more.
-pub fn lendable(lent: usize, most: usize) -> usize
-    ensures { result ≤ most }
-{
-    if most < lent { most } else { lent }
-}
-
-// Where the words lent first stand, as they are before the call.
-pub fn first_at(record: &[u8]) -> usize
-    ensures { result ≤ 120 }
-{
-    let call = call_of(record);
-    results_at(call) + NUMBER_BYTES * results_of(call)
-}
-
-// Where the words lent second stand, as they are before the call.
-pub fn second_at(record: &[u8]) -> usize
-    ensures { result ≤ 632 }
-{
-    first_at(record) + first_bytes(record)
-}
-
-// Where the words lent first stand as they are after the call: for a call that writes nothing, as before it.
-pub fn first_after_at(record: &[u8]) -> usize {
-    if writes(call_of(record)) {
-        return before_end(record);
+    // Where the words lent first stand, as they are before the call.
+    pub fn first_at(self) -> usize
+        ensures { result ≤ 120 }
+    {
+        self.results_at() + NUMBER_BYTES * self.call().results()
     }
-    first_at(record)
-}
 
-// Where the words lent second stand as they are after the call: for a call that does not write them, as before it.
-pub fn second_after_at(record: &[u8]) -> usize {
-    if writes_both(call_of(record)) {
-        return first_after_end(record);
+    // Where the words lent second stand, as they are before the call.
+    pub fn second_at(self) -> usize
+        ensures { result ≤ 632 }
+    {
+        self.first_at() + self.first_bytes()
     }
-    second_at(record)
-}
 
-// The length that a record of this call and of so many lent words has.
-pub fn due_length(record: &[u8]) -> usize {
-    if writes_both(call_of(record)) {
-        return first_after_end(record) + second_bytes(record);
+    // Where the words lent first stand as they are after the call: for a call that writes nothing, as before it.
+    pub fn first_after_at(self) -> usize {
+        if self.call().writes() {
+            self.before_end()
+        } else {
+            self.first_at()
+        }
     }
-    first_after_end(record)
-}
 
-// Where the words as they are before the call end.
-fn before_end(record: &[u8]) -> usize
-    ensures { result ≤ 1144 }
-{
-    second_at(record) + second_bytes(record)
-}
-
-// Where the words lent first end as they are after the call. For a call that writes nothing the record ends there.
-fn first_after_end(record: &[u8]) -> usize
-    ensures { result ≤ 1656 }
-{
-    if writes(call_of(record)) {
-        return before_end(record) + first_bytes(record);
+    // Where the words lent second stand as they are after the call: for a call that does not write them, as before it.
+    pub fn second_after_at(self) -> usize {
+        if self.call().writes_both() {
+            self.first_after_end()
+        } else {
+            self.second_at()
+        }
     }
-    before_end(record)
-}
 
-// How many bytes the words lent first take.
-fn first_bytes(record: &[u8]) -> usize
-    ensures { result ≤ 512 }
-{
-    bytes_of(first_lent(record), width_of(record))
-}
-
-// How many bytes the words lent second take.
-fn second_bytes(record: &[u8]) -> usize
-    ensures { result ≤ 512 }
-{
-    bytes_of(second_lent(record), width_of(record))
-}
-
-// How many bytes of a record so many words take.
-fn bytes_of(lent: usize, width: u8) -> usize
-    ensures { result ≤ 512 }
-{
-    if MOST_HELD < lent {
-        return 0;
+    // The length that a record of this call and of so many lent words has.
+    pub fn due_length(self) -> usize {
+        if self.call().writes_both() {
+            self.first_after_end() + self.second_bytes()
+        } else {
+            self.first_after_end()
+        }
     }
-    if width == 8 { lent } else { lent * 8 }
+
+    // Word `index` of so many lent words of `width` bits that begin at a place: a number whose low bits are the word. Where more words are lent
+    // than a record holds, all are 0.
+    pub fn word(self, width: usize, at: usize, lent: usize, index: usize) -> u64 {
+        if MOST_HELD < lent || MOST_HELD <= index || LAST_PLACE < at || WIDEST < width {
+            return 0;
+        }
+        number_at(self.bytes(), at + width / 8 * index)
+    }
+
+    // Where the words as they are before the call end.
+    fn before_end(self) -> usize
+        ensures { result ≤ 1144 }
+    {
+        self.second_at() + self.second_bytes()
+    }
+
+    // Where the words lent first end as they are after the call. For a call that writes nothing the record ends there.
+    fn first_after_end(self) -> usize
+        ensures { result ≤ 1656 }
+    {
+        if self.call().writes() {
+            self.before_end() + self.first_bytes()
+        } else {
+            self.before_end()
+        }
+    }
+
+    // How many bytes the words lent first take.
+    fn first_bytes(self) -> usize
+        ensures { result ≤ 512 }
+    {
+        self.bytes_of(self.first_lent())
+    }
+
+    // How many bytes the words lent second take.
+    fn second_bytes(self) -> usize
+        ensures { result ≤ 512 }
+    {
+        self.bytes_of(self.second_lent())
+    }
+
+    // How many bytes of the record so many words take.
+    fn bytes_of(self, lent: usize) -> usize
+        ensures { result ≤ 512 }
+    {
+        if MOST_HELD < lent {
+            0
+        } else if self.width() == 8 {
+            lent
+        } else {
+            lent * NUMBER_BYTES
+        }
+    }
 }

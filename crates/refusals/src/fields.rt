@@ -1,6 +1,5 @@
 // The refusals of the calls on single bits and fields: those of the span first, then the call's own.
-ghost use Rattle.std.specs.Prelude.{◌≡◌, true, false};
-ghost use Rattle.rules.specs.declared.Verdict.TheVariants.{Fine, Refused};
+ghost use Rattle.std.specs.Prelude.{◌≡◌, true, false, Ok, Err};
 ghost use Rattle.rules.specs.Bits.{bits};
 ghost use Rattle.rules.specs.Fields.{whole};
 ghost use Rattle.rules.specs.Refusals.{verdict, bit_cases, load_cases, store_cases, store_strict_cases};
@@ -10,27 +9,21 @@ ghost use Rattle.laws.proofs.Fields.Chunk.{chunk};
 
 use crate::values::{check_field, check_fit, is_integer, is_size};
 use pieces::CHUNK;
-use rules::{MOST_WORDS, Number, Refusal, Sign, Span, Verdict, Width};
+use rules::{MOST_WORDS, Number, Refusal, Sign, Span, Width};
 
 // What a read or a write of one bit is refused for: 1 to 3 of its span, then 10 where the index is not below the span's length.
-pub fn check_bit(width: Width, lent: usize, span: Span, index: usize) -> Verdict
+pub fn check_bit(width: Width, lent: usize, span: Span, index: usize) -> Result<(), Refusal>
     ensures { Judges (bit_cases (bits width) lent span index) result }
 {
-    let verdict = span.check(width, lent);
-    match verdict {
-        Verdict::Refused(no) => Verdict::Refused(no),
-        Verdict::Fine => {
-            if span.len <= index {
-                Verdict::Refused(Refusal::NotBelow)
-            } else {
-                Verdict::Fine
-            }
-        }
+    span.check(width, lent)?;
+    if span.len <= index {
+        return Err(Refusal::NotBelow);
     }
+    Ok(())
 }
 
 // What a load is refused for: 1 to 3 of its span, then 4 and 5 of K and the field's length.
-pub fn check_load(width: Width, lent: usize, span: Span, k: usize) -> Verdict
+pub fn check_load(width: Width, lent: usize, span: Span, k: usize) -> Result<(), Refusal>
     ensures { Judges (load_cases (bits width) lent span k) result }
 {
     if width.bits() == CHUNK {
@@ -47,21 +40,14 @@ pub fn check_store(
     k: usize,
     sign: Sign,
     value: Number,
-) -> Verdict
+) -> Result<(), Refusal>
     ensures { Judges (store_cases (bits width) lent span k sign (whole value)) result }
 {
-    let verdict = check_load(width, lent, span, k);
-    match verdict {
-        Verdict::Refused(no) => Verdict::Refused(no),
-        Verdict::Fine => {
-            let integer = is_integer(value, k, sign);
-            if integer {
-                Verdict::Fine
-            } else {
-                Verdict::Refused(Refusal::NotAnInteger)
-            }
-        }
+    check_load(width, lent, span, k)?;
+    if is_integer(value, k, sign) {
+        return Ok(());
     }
+    Err(Refusal::NotAnInteger)
 }
 
 // What a strict store is refused for: what a store is, then 9 where the value does not fit the field.
@@ -72,47 +58,41 @@ pub fn check_store_strict(
     k: usize,
     sign: Sign,
     value: Number,
-) -> Verdict
+) -> Result<(), Refusal>
     ensures { Judges (store_strict_cases (bits width) lent span k sign (whole value)) result }
 {
-    let verdict = span.check(width, lent);
-    match verdict {
-        Verdict::Refused(no) => Verdict::Refused(no),
-        Verdict::Fine => check_fit(value, k, span.len, sign),
-    }
+    span.check(width, lent)?;
+    check_fit(value, k, span.len, sign)
 }
 
 // The table of a load, row by row.
-fn check_rows(width: Width, lent: usize, span: Span, k: usize) -> Verdict
+fn check_rows(width: Width, lent: usize, span: Span, k: usize) -> Result<(), Refusal>
     ensures { Judges (load_cases (bits width) lent span k) result }
 {
-    let verdict = span.check(width, lent);
-    match verdict {
-        Verdict::Refused(no) => Verdict::Refused(no),
-        Verdict::Fine => check_field(k, span.len),
-    }
+    span.check(width, lent)?;
+    check_field(k, span.len)
 }
 
 // The same table where a word holds the longest field, so that a field has one word or two: what is accepted is seen first, and in one word sooner.
-fn check_chunk(width: Width, lent: usize, span: Span, k: usize) -> Verdict
+fn check_chunk(width: Width, lent: usize, span: Span, k: usize) -> Result<(), Refusal>
     requires { bits width ≡ chunk }
     ensures { Judges (load_cases (bits width) lent span k) result }
 {
     let begun = is_begun(lent, span.word, span.len, k);
     if !begun {
-        return Verdict::Refused(reason(width, lent, span, k));
+        return Err(reason(width, lent, span, k));
     }
     let head = span.head.0;
     if head <= CHUNK - span.len {
-        return Verdict::Fine;
+        return Ok(());
     }
     if CHUNK <= head {
-        return Verdict::Refused(Refusal::IndexTooLarge);
+        return Err(Refusal::IndexTooLarge);
     }
     if lent <= span.word + 1 {
-        return Verdict::Refused(Refusal::OutOfBounds);
+        return Err(Refusal::OutOfBounds);
     }
-    Verdict::Fine
+    Ok(())
 }
 
 // Whether a field has begun well: 1, 4 and 5 do not hold, and its first word is lent. The longest test is the last, so that each is a jump of its
@@ -137,18 +117,11 @@ fn is_begun(lent: usize, word: usize, len: usize, k: usize) -> bool
 
 // The refusal of a load that the caller has seen to be refused.
 fn reason(width: Width, lent: usize, span: Span, k: usize) -> Refusal
-    requires { verdict (load_cases (bits width) lent span k) ≡ Fine → ⊥ }
-    ensures { verdict (load_cases (bits width) lent span k) ≡ Refused result }
+    requires { verdict (load_cases (bits width) lent span k) ≡ Ok tt → ⊥ }
+    ensures { verdict (load_cases (bits width) lent span k) ≡ Err result }
 {
-    let verdict = span.check(width, lent);
-    match verdict {
-        Verdict::Refused(no) => no,
-        Verdict::Fine => {
-            let rest = check_field(k, span.len);
-            match rest {
-                Verdict::Refused(no) => no,
-                Verdict::Fine => Refusal::FieldLength,
-            }
-        }
+    match check_rows(width, lent, span, k) {
+        Err(no) => no,
+        Ok(()) => Refusal::FieldLength,
     }
 }

@@ -1,4 +1,4 @@
-// The tables of refusals as code, before any word is read: each check promises the verdict of its table, which is the first row that holds. (Those
+// The tables of refusals as code, before any word is read: each check is refused as its table is, by the first row that holds. (Those
 // of a span alone, and of a place in it, are the span's own `check` and `check_place`.)
 #![tactic(auto)]
 

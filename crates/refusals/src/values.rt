@@ -5,59 +5,45 @@ ghost use Rattle.rules.specs.Refusals.{field_cases, value_cases, fitting_cases};
 ghost use Rattle.rules.specs.Answers.{Judges};
 
 use pieces::low_ones;
-use rules::{Number, Refusal, Sign, Verdict};
+use rules::{Number, Refusal, Sign};
 
 // What a field is refused for, whatever it holds: 4 where K is not 8, 16, 32 or 64, 5 where it has no bits or more than K.
-pub fn check_field(k: usize, len: usize) -> Verdict
+pub fn check_field(k: usize, len: usize) -> Result<(), Refusal>
     ensures { Judges (field_cases k len) result }
 {
     let sized = is_size(k);
     if !sized {
-        return Verdict::Refused(Refusal::NoSuchK);
+        return Err(Refusal::NoSuchK);
     }
     if len == 0 {
-        return Verdict::Refused(Refusal::FieldLength);
+        return Err(Refusal::FieldLength);
     }
     if k < len {
-        return Verdict::Refused(Refusal::FieldLength);
+        return Err(Refusal::FieldLength);
     }
-    Verdict::Fine
+    Ok(())
 }
 
 // What a value is refused for as the contents of a field of `len` bits: what the field is, then 8 where the value is no K-bit integer.
-pub fn check_value(value: Number, k: usize, len: usize, sign: Sign) -> Verdict
+pub fn check_value(value: Number, k: usize, len: usize, sign: Sign) -> Result<(), Refusal>
     ensures { Judges (value_cases k len sign (whole value)) result }
 {
-    let verdict = check_field(k, len);
-    match verdict {
-        Verdict::Refused(no) => Verdict::Refused(no),
-        Verdict::Fine => {
-            let integer = is_integer(value, k, sign);
-            if integer {
-                Verdict::Fine
-            } else {
-                Verdict::Refused(Refusal::NotAnInteger)
-            }
-        }
+    check_field(k, len)?;
+    if is_integer(value, k, sign) {
+        return Ok(());
     }
+    Err(Refusal::NotAnInteger)
 }
 
 // The same of a value that is to fit: then 9 where it does not.
-pub fn check_fit(value: Number, k: usize, len: usize, sign: Sign) -> Verdict
+pub fn check_fit(value: Number, k: usize, len: usize, sign: Sign) -> Result<(), Refusal>
     ensures { Judges (fitting_cases k len sign (whole value)) result }
 {
-    let verdict = check_value(value, k, len, sign);
-    match verdict {
-        Verdict::Refused(no) => Verdict::Refused(no),
-        Verdict::Fine => {
-            let small = fits(value, len, sign);
-            if small {
-                Verdict::Fine
-            } else {
-                Verdict::Refused(Refusal::DoesNotFit)
-            }
-        }
+    check_value(value, k, len, sign)?;
+    if fits(value, len, sign) {
+        return Ok(());
     }
+    Err(Refusal::DoesNotFit)
 }
 
 // Whether K is one of the four: a power of two, and one of the bits 8, 16, 32 and 64.

@@ -3,17 +3,13 @@
 // compared with the record. The program prints the first disagreement, if there is one, and then counts for each call.
 #![tactic(auto)]
 
-mod faults;
-mod replaying;
+mod replay;
 mod tally;
 mod telling;
-mod without_words;
 
-use crate::tally::COUNTS;
-use records::form::MOST_LENT;
+use crate::replay::Replay;
 use records::input;
-use records::input::Start;
-use std::io::Read;
+use std::io::{Read, Write};
 use std::rt::{Env, Files};
 use std::{fs, io};
 
@@ -25,7 +21,7 @@ fn main(rt: HostRuntime) -> io::Result<()> {
     let mut name = [0u8; NAME_BYTES];
     match rt.arg(1, &mut name) {
         Ok(length) if length > 0 => replay_named(&rt, &name[..length]),
-        _ => show::text(&rt, b"usage: replay FILE\n"),
+        _ => println!(rt; "usage: replay FILE"),
     }
 }
 
@@ -34,61 +30,40 @@ fn replay_named<R: Files + Print>(rt: &R, name: &[u8]) -> io::Result<()> {
     match opened(rt, name) {
         Some(mut file) => replay_file(rt, &mut file),
         None => {
-            show::text(rt, b"the file cannot be opened: ")?;
-            show::text(rt, name)?;
-            show::end(rt)
+            print!(rt; "the file cannot be opened: ")?;
+            io::writer(rt).write_all(name)?;
+            println!(rt; "")
         }
     }
 }
 
 // The file of that name, to be read, if it can be opened. A name is text.
 fn opened<R: Files>(rt: &R, name: &[u8]) -> Option<R::File> {
-    match str::from_utf8(name) {
-        Ok(text) => fs::open(rt, text).ok(),
-        Err(_) => None,
-    }
+    let text = str::from_utf8(name).ok()?;
+    fs::open(rt, text).ok()
 }
 
 // Replays an open file, or says what it is instead of one of records.
 fn replay_file(rt: &impl Print, file: &mut impl Read) -> io::Result<()> {
     match input::begin(file) {
-        Start::Records(records) => replay_records(rt, file, records),
-        Start::Short => show::text(rt, b"the file has no 16 bytes, or cannot be read\n"),
-        Start::Foreign => show::text(rt, b"the file does not begin with STPLVEC1\n"),
+        Ok(records) => replay_records(rt, file, records),
+        Err(unbegun) => println!(rt; "{unbegun}"),
     }
 }
 
-// Replays the records that the file announces, and prints the counts.
+// Replays the records that the file announces, and prints the counts and whether the whole file was replayed.
 fn replay_records(rt: &impl Print, file: &mut impl Read, records: u64) -> io::Result<()> {
-    let mut first64 = [0u64; MOST_LENT];
-    let mut second64 = [0u64; MOST_LENT];
-    let mut first8 = [0u8; MOST_LENT];
-    let mut second8 = [0u8; MOST_LENT];
-    let mut counts = [0u64; COUNTS];
-    let done = replaying::are_replayed(
-        rt,
-        file,
-        records,
-        &mut first64,
-        &mut second64,
-        &mut first8,
-        &mut second8,
-        &mut counts,
-    )?;
+    let mut replay = Replay::new();
+    let done = replay.are_replayed(rt, file, records)?;
     let over = input::is_over(file);
     if done && !over {
-        show::text(rt, b"bytes follow the last record\n")?;
+        println!(rt; "bytes follow the last record")?;
     }
-    tally::print(rt, &counts)?;
-    conclude(rt, done && over, tally::disagreements(&counts))
-}
-
-// Prints the last line: whether the whole file was replayed, and how many records disagree.
-fn conclude(rt: &impl Print, done: bool, disagreements: u64) -> io::Result<()> {
-    if !done {
-        return show::text(rt, b"not replayed to the end\n");
+    replay.tally().print(rt)?;
+    if done && over {
+        let disagreements = replay.tally().disagreements();
+        println!(rt; "replayed to the end, {disagreements} disagree")
+    } else {
+        println!(rt; "not replayed to the end")
     }
-    show::text(rt, b"replayed to the end, ")?;
-    show::decimal(rt, disagreements)?;
-    show::text(rt, b" disagree\n")
 }

@@ -1,95 +1,75 @@
-// Counts of replayed records: a row of four for each call, in the order of the calls' numbers, and one more row for all calls together.
-use crate::telling;
-use records::calls::CALLS;
-use records::parts::BITVECS;
-use std::io;
+// Counts of replayed records: a row for each call, in the order of the calls' numbers, and one for all calls together.
+use records::calls::{CALLS, Call};
+use records::owners::Whose;
+use std::{fmt, io};
 
-// The column of a row that counts its records.
-const REPLAYED: usize = 0;
-
-// The column that counts bitvec's answers.
-const OF_BITVEC: usize = 1;
-
-// The column that counts answers of the model alone.
-const OF_MODEL: usize = 2;
-
-// The column that counts disagreements.
-const DISAGREE: usize = 3;
-
-// How many columns a row has.
-const COLUMNS: usize = 4;
-
-// The row of all calls together.
-const ALL: usize = CALLS as usize;
-
-// How many counts there are.
-pub const COUNTS: usize = COLUMNS * (ALL + 1);
-
-// Counts a record of a call, in the call's row and in that of all.
-pub fn add(counts: &mut [u64; COUNTS], call: u8, whose: u8, agrees: bool) {
-    count(counts, call as usize, whose, agrees);
-    count(counts, ALL, whose, agrees);
+// How many records were replayed, how many of their answers are bitvec's and the model's alone, and how many disagree.
+#[derive(Clone, Copy, Debug, Default, PartialEq, Eq)]
+struct Row {
+    replayed: u64,
+    of_bitvec: u64,
+    of_model: u64,
+    disagree: u64,
 }
 
-// How many records disagree so far.
-pub fn disagreements(counts: &[u64; COUNTS]) -> u64 {
-    counts[COLUMNS * ALL + DISAGREE]
+// The rows of all calls, and that of all together.
+#[derive(Clone, Copy, Debug, PartialEq, Eq)]
+pub struct Tally {
+    rows: [Row; CALLS],
+    all: Row,
 }
 
-// Prints a line for each call, and one for all.
-pub fn print(rt: &impl Print, counts: &[u64; COUNTS]) -> io::Result<()> {
-    for call in 0..CALLS {
-        telling::name(rt, call)?;
-        print_row(rt, counts, call as usize)?;
-    }
-    show::text(rt, b"all          | ")?;
-    print_row(rt, counts, ALL)
-}
-
-// Prints the counts of a row.
-fn print_row(rt: &impl Print, counts: &[u64; COUNTS], row: usize) -> io::Result<()> {
-    if ALL < row {
-        return Ok(());
-    }
-    let at = COLUMNS * row;
-    telling::counts(
-        rt,
-        counts[at + REPLAYED],
-        counts[at + OF_BITVEC],
-        counts[at + OF_MODEL],
-        counts[at + DISAGREE],
-    )
-}
-
-// Counts a record in a row.
-fn count(counts: &mut [u64; COUNTS], row: usize, whose: u8, agrees: bool) {
-    if ALL < row {
-        return;
-    }
-    let at = COLUMNS * row;
-    step(counts, at + REPLAYED);
-    if whose == BITVECS {
-        step(counts, at + OF_BITVEC);
-    } else {
-        step(counts, at + OF_MODEL);
-    }
-    if !agrees {
-        step(counts, at + DISAGREE);
+impl Row {
+    // Counts a record. A count that can go no further stays.
+    fn count(&mut self, whose: Whose, agrees: bool) {
+        self.replayed = self.replayed.saturating_add(1);
+        match whose {
+            Whose::Bitvec => self.of_bitvec = self.of_bitvec.saturating_add(1),
+            Whose::Model => self.of_model = self.of_model.saturating_add(1),
+        }
+        if !agrees {
+            self.disagree = self.disagree.saturating_add(1);
+        }
     }
 }
 
-// Adds one to a count.
-fn step(counts: &mut [u64; COUNTS], at: usize) {
-    if at < COUNTS {
-        counts[at] = more(counts[at]);
+impl fmt::Display for Row {
+    // The four counts, each with what it counts.
+    fn fmt<W: fmt::Write>(&self, f: &mut fmt::Formatter<W>) -> fmt::Result {
+        write!(
+            f,
+            "{} replayed | {} bitvec's | {} the model's alone | {} disagree",
+            self.replayed, self.of_bitvec, self.of_model, self.disagree
+        )
     }
 }
 
-// One more, or the same where a count can go no further.
-fn more(count: u64) -> u64 {
-    if count < 0xffff_ffff_ffff_ffff {
-        count + 1
-    } else {
-        count
+impl Tally {
+    // The counts before any record.
+    pub fn new() -> Tally {
+        Tally {
+            rows: [Row::default(); CALLS],
+            all: Row::default(),
+        }
+    }
+
+    // Counts a record of a call, in the call's row and in that of all.
+    pub fn count(&mut self, call: Call, whose: Whose, agrees: bool) {
+        self.rows[call.number() as usize].count(whose, agrees);
+        self.all.count(whose, agrees);
+    }
+
+    // How many records disagree so far.
+    pub fn disagreements(&self) -> u64 {
+        self.all.disagree
+    }
+
+    // Prints a line for each call, and one for all.
+    pub fn print(&self, rt: &impl Print) -> io::Result<()> {
+        for (call, row) in Call::ALL.iter().zip(self.rows.iter()) {
+            println!(rt; "{call:<12} | {row}")?;
+        }
+        let all = self.all;
+        println!(rt; "all          | {all}")
     }
 }

@@ -4,6 +4,8 @@ use Prim.Native.Nat.{ℕ, ◌<◌}
 use mathlib.Core.Path.{◌≡◌, refl, sym, ◌∙◌, ap, ap₂}
 use mathlib.Core.List.{List, [], ◌∷◌, map}
 use lib.ListN.{length}
+use Rattle.std.proofs.Common.{Result}
+use Rattle.rules.specs.declared.Refusal.{Refusal}
 use Rattle.rules.specs.Bits.{bit_at}
 use Rattle.rules.specs.Calls.{Answer, refused}
 use Rattle.rules.specs.Answers.{Gives}
@@ -45,8 +47,8 @@ hers_map f one (of two a ∷ t) = hers_map f one t
 hers_map f two (of one a ∷ t) = hers_map f two t
 hers_map f two (of two a ∷ t) = ap (λ r. f a ∷ r) (hers_map f two t)
 
-module _ (W : ℕ) (wide : 0 < W) (Performs : List ℕ → Request → List ℕ → Reply → List ℕ → Type 0)
-    (promise : (ws : List ℕ) (request : Request) (other : List ℕ) (reply : Reply) (ms : List ℕ) → Performs ws request other reply ms
+module _ (W : ℕ) (wide : 0 < W) (Performs : List ℕ → Request → List ℕ → Result Reply Refusal → List ℕ → Type 0)
+    (promise : (ws : List ℕ) (request : Request) (other : List ℕ) (reply : Result Reply Refusal) (ms : List ℕ) → Performs ws request other reply ms
     → Gives W (call_of request other) ws (reply_says reply) ms) where
   -- what comes back says what is answered, and the buffer is what is left
   run_answers : (s : List Exchange) (ws vs : List ℕ) → Run Performs ws s vs → map (λ e. says (got e)) s ≡ answers (told W) (left W) (map asked s) ws

@@ -1,7 +1,8 @@
 -- Which call of the rules a request is, and what a reply says. Cited by the promises of `perform`. Assumes nothing.
-use Rattle.std.specs.Prelude.{ℕ, List}
+use Rattle.std.specs.Prelude.{ℕ, cond, List, Result}
+use Rattle.rules.specs.declared.Refusal.{Refusal}
 use Rattle.rules.specs.Fields.{whole}
-use Rattle.rules.specs.Refusals.{number}
+use Rattle.rules.specs.Answers.{answer_says, found_says}
 use Rattle.rules.specs.Calls as calls
 use Rattle.requests.specs.declared.Side.{Side}
 use Rattle.requests.specs.declared.Side.TheVariants.{Here, There}
@@ -9,7 +10,7 @@ use Rattle.requests.specs.declared.Request.{Request}
 use Rattle.requests.specs.declared.Request.TheVariants.{ReadBit, WriteBit, Load, Store, StoreStrict, CopyFrom, CopyWithin, Boolean}
 use Rattle.requests.specs.declared.Request.TheVariants.{Equal, FindFirst, FindLast}
 use Rattle.requests.specs.declared.Reply.{Reply}
-use Rattle.requests.specs.declared.Reply.TheVariants.{Refused, Done, Bit, Number, Yes, No, At, Absent}
+use Rattle.requests.specs.declared.Reply.TheVariants.{Done, Bit, Number, Equal as Compared, Found}
 
 -- a side of a comparison, the second buffer being vs
 abbrev pub side_of : Side → List ℕ → calls.Side
@@ -31,12 +32,13 @@ call_of (FindFirst b s) vs = calls.find_first (calls.digit b) s
 call_of (FindLast b s) vs = calls.find_last (calls.digit b) s
 
 -- what a reply says
-abbrev pub reply_says : Reply → calls.Answer
-reply_says (Refused r) = calls.refused (number r)
-reply_says Done = calls.done
-reply_says (Bit b) = calls.a_bit (calls.digit b)
-reply_says (Number v) = calls.a_number (whole v)
-reply_says Yes = calls.says_yes
-reply_says No = calls.says_no
-reply_says (At i) = calls.found_at i
-reply_says Absent = calls.absent
+abbrev pub accepted_says : Reply → calls.Answer
+accepted_says Done = calls.done
+accepted_says (Bit b) = calls.a_bit (calls.digit b)
+accepted_says (Number v) = calls.a_number (whole v)
+accepted_says (Compared b) = cond b calls.says_yes calls.says_no
+accepted_says (Found i) = found_says i
+
+-- what comes back says: what the reply does, or a refusal's number
+abbrev pub reply_says : Result Reply Refusal → calls.Answer
+reply_says r = answer_says accepted_says r

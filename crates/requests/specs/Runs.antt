@@ -1,6 +1,7 @@
 -- Runs of the code: what is asked of `perform` one after the other, each step keeping its promise; and what two parties are promised of it.
 -- Cited by the isolation theorems of the code. Assumes nothing.
-use Rattle.std.specs.Prelude.{ℕ, ◌≡◌, List, [], ◌∷◌, map, length}
+use Rattle.std.specs.Prelude.{ℕ, ◌≡◌, List, [], ◌∷◌, map, length, Result}
+use Rattle.rules.specs.declared.Refusal.{Refusal}
 use Rattle.rules.specs.Bits.{bit_at}
 use Rattle.rules.specs.Mixtures.{Party, Of, of, hers, Asked, call, no_call}
 use Rattle.requests.specs.declared.Request.{Request}
@@ -9,12 +10,12 @@ use Rattle.requests.specs.Requests.{call_of}
 
 -- What was asked and what was replied: a request with a second, read-only buffer; or, at the border to C, what is no call and is answered 255.
 pub data Exchange : Type 0 where
-  performed : Request → List ℕ → Reply → Exchange
+  performed : Request → List ℕ → Result Reply Refusal → Exchange
   declined : Exchange
 
 -- what came back
 pub data Got : Type 0 where
-  replied : Reply → Got
+  replied : Result Reply Refusal → Got
   got_255 : Got
 
 abbrev pub got : Exchange → Got
@@ -35,11 +36,11 @@ abbrev pub unmarked : Of Exchange → Exchange
 unmarked (of p e) = e
 
 -- `Performs ws request other reply vs` says that the function, given the buffer ws, kept its promise with this reply and the buffer vs.
-module _ (Performs : List ℕ → Request → List ℕ → Reply → List ℕ → Type 0) where
+module _ (Performs : List ℕ → Request → List ℕ → Result Reply Refusal → List ℕ → Type 0) where
   -- a run from one buffer to another
   pub data Run : List ℕ → List Exchange → List ℕ → Type 0 where
     ended : {ws : List ℕ} → Run ws [] ws
-    step : {ws ms vs other : List ℕ} {request : Request} {reply : Reply} {t : List Exchange}
+    step : {ws ms vs other : List ℕ} {request : Request} {reply : Result Reply Refusal} {t : List Exchange}
         → Performs ws request other reply ms → Run ms t vs → Run ws (performed request other reply ∷ t) vs
     passed : {ws vs : List ℕ} {t : List Exchange} → Run ws t vs → Run ws (declined ∷ t) vs
 

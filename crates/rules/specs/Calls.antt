@@ -1,7 +1,7 @@
 -- The calls of document 01: what each answers, what memory holds after it, and, for one-buffer calls, which positions it reads and writes.
 -- Cited by the promise of every call, and by the isolation theorem. Assumes nothing.
 use Rattle.std.specs.Prelude.{ℕ, zero, suc, ◌+◌, ◌%◌, ◌^◌, Bool, true, false, ◌||◌, cond, List, length, ltb, ℤ, pos}
-use Rattle.rules.specs.Types.{Order, Span, Significance, Sign, Verdict, Fine, Refused}
+use Rattle.rules.specs.Types.{Order, Span, Significance, Sign, Verdict, Ok, Err}
 use Rattle.rules.specs.Positions.{position, selector, mask, start, span_bit, first_half, second_half, spliced, covers}
 use Rattle.rules.specs.Fields.{load_of, read_as, bits_of, store_of}
 use Rattle.rules.specs.Rows.{copied, copied_within, combined, same_spans, first_with, last_with}
@@ -24,13 +24,13 @@ pub data Answer : Type 0 where
 
 -- Each refusal returns its number alone.
 abbrev pub said : Verdict → Answer → Answer
-said Fine a = a
-said (Refused r) a = refused (number r)
+said (Ok _) a = a
+said (Err r) a = refused (number r)
 
 -- After a refusal all lent memory holds its old bits.
 abbrev pub unless : {A : Type 0} → Verdict → A → A → A
-unless Fine new old = new
-unless (Refused r) new old = old
+unless (Ok _) new old = new
+unless (Err r) new old = old
 
 -- ---- position, selector and mask, which have no lent words; split, shortening and shifting, which are told the number n of words lent
 

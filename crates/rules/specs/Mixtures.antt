@@ -1,7 +1,7 @@
 -- The third demand: two parties that own separate bit positions of one buffer never disturb each other, for any mixture of one-buffer calls.
 -- `Isolated` states it. Cited by the isolation theorems, and by nothing else. Assumes nothing.
 use Rattle.std.specs.Prelude.{ℕ, ◌≡◌, true, ◌||◌, List, [], ◌∷◌}
-use Rattle.rules.specs.Types.{Fine}
+use Rattle.rules.specs.Types.{Ok}
 use Rattle.rules.specs.Bits.{bit_at}
 use Rattle.rules.specs.Refusals.{verdict}
 use Rattle.rules.specs.Calls.{Answer, refused, Call, cases, answer, after, reads!, writes! }
@@ -74,7 +74,7 @@ Separate Own = (q : ℕ) → Own one q → Own two q → ⊥
 
 -- An accepted call, of a buffer of n words, reads and writes only positions that its caller owns. What is refused, or no call, reads and writes none.
 abbrev pub Within : ℕ → ℕ → (Party → ℕ → Type 0) → Party → Asked → Type 0
-Within W n Own p (call c) = verdict (cases W n c) ≡ Fine → (q : ℕ) → (reads! W c q || writes! W c q) ≡ true → Own p q
+Within W n Own p (call c) = verdict (cases W n c) ≡ Ok tt → (q : ℕ) → (reads! W c q || writes! W c q) ≡ true → Own p q
 Within W n Own p no_call = Unit {0}
 
 -- Each party's answers and final bits are those of what it asked alone, and bits that nobody owns stay.

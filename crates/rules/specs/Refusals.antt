@@ -2,7 +2,7 @@
 -- every answer. Assumes nothing.
 use Rattle.std.specs.Prelude.{ℕ, ◌+◌, Bool, true, false, ◌||◌, not, List, [], ◌∷◌, ◌++◌, leb, ltb, eqb, ℤ}
 use Rattle.rules.specs.Types.{Order, Lsb0, Msb0, Span, Sign, Signed, Refusal, TooManyWords, IndexTooLarge, OutOfBounds, NoSuchK}
-use Rattle.rules.specs.Types.{FieldLength, OrdersDiffer, LengthsDiffer, NotAnInteger, DoesNotFit, NotBelow, Verdict, Fine, Refused}
+use Rattle.rules.specs.Types.{FieldLength, OrdersDiffer, LengthsDiffer, NotAnInteger, DoesNotFit, NotBelow, Verdict, Ok, Err}
 use Rattle.rules.specs.Positions.{in_bounds}
 use Rattle.rules.specs.Fields.{is_size, is_integer, fits}
 
@@ -35,8 +35,8 @@ or_else false a b = b
 
 -- lowest number first: the first row whose condition holds
 unfoldable pub verdict : List Case → Verdict
-verdict [] = Fine
-verdict (c ∷ t) = or_else c.holds (Refused c.no) (verdict t)
+verdict [] = Ok tt
+verdict (c ∷ t) = or_else c.holds (Err c.no) (verdict t)
 
 -- 1: more than 65,536 words lent; 2: head is W or more; 3: span not in bounds
 unfoldable pub span_cases : ℕ → ℕ → Span → List Case

@@ -1,328 +1,194 @@
 // Fields in the bytes B4 6C F1, in both orders.
-use rules::{Number, Order, Sign, Significance, Span};
+use requests::Reply;
+use rules::{Number, Order, Refusal, Sign, Significance, Span};
+use show::{Bytes, Hex, Shown};
 use std::io;
 
 // Prints three tables, each with a column for each order: loads, stores, and the limits of both.
 pub fn run(rt: &impl Print) -> io::Result<()> {
-    show::text(
-        rt,
-        b"fields in B4 6C F1                       | Lsb0 | Msb0\n",
-    )?;
+    println!(rt; "{:<40} | Lsb0 | Msb0", "fields in B4 6C F1")?;
     eight_bits(rt)?;
     three_bits(rt)?;
     sixteen_bits(rt)?;
-    show::end(rt)?;
-    show::text(
-        rt,
-        b"fields stored into 00 00 00              | Lsb0 | Msb0\n",
-    )?;
+    println!(rt; "\n{:<40} | Lsb0 | Msb0", "fields stored into 00 00 00")?;
     stores(rt)?;
-    show::end(rt)?;
-    show::text(
-        rt,
-        b"limits of fields                         | Lsb0 | Msb0\n",
-    )?;
+    println!(rt; "\n{:<40} | Lsb0 | Msb0", "limits of fields")?;
     heads(rt)?;
     lengths(rt)?;
-    values(rt)?;
-    show::end(rt)
+    values(rt)
 }
 
 // Loads of 8 bits that lie in two bytes.
 fn eight_bits(rt: &impl Print) -> io::Result<()> {
-    load(
-        rt,
-        b"head 4, 8 bits, le                       | ",
-        4,
-        8,
-        8,
-        Significance::Le,
-        Sign::Unsigned,
-    )?;
-    load(
-        rt,
-        b"same, be                                 | ",
-        4,
-        8,
-        8,
-        Significance::Be,
-        Sign::Unsigned,
-    )?;
-    load(
-        rt,
-        b"same, signed K = 8, le                   | ",
-        4,
-        8,
-        8,
-        Significance::Le,
-        Sign::Signed,
-    )
+    for (name, significance, sign) in [
+        ("head 4, 8 bits, le", Significance::Le, Sign::Unsigned),
+        ("same, be", Significance::Be, Sign::Unsigned),
+        ("same, signed K = 8, le", Significance::Le, Sign::Signed),
+    ] {
+        load(rt, name, Field::new(4, 8, 8, significance, sign))?;
+    }
+    Ok(())
 }
 
 // Loads of 3 bits of one byte.
 fn three_bits(rt: &impl Print) -> io::Result<()> {
-    load(
-        rt,
-        b"head 3, 3 bits, le                       | ",
-        3,
-        3,
-        8,
-        Significance::Le,
-        Sign::Unsigned,
-    )?;
-    load(
-        rt,
-        b"same, signed                             | ",
-        3,
-        3,
-        8,
-        Significance::Le,
-        Sign::Signed,
-    )
+    for (name, sign) in [
+        ("head 3, 3 bits, le", Sign::Unsigned),
+        ("same, signed", Sign::Signed),
+    ] {
+        load(rt, name, Field::new(3, 3, 8, Significance::Le, sign))?;
+    }
+    Ok(())
 }
 
 // Loads of 16 bits that lie in three bytes.
 fn sixteen_bits(rt: &impl Print) -> io::Result<()> {
-    load(
-        rt,
-        b"head 4, 16 bits, le                      | ",
-        4,
-        16,
-        16,
-        Significance::Le,
-        Sign::Unsigned,
-    )?;
-    load(
-        rt,
-        b"same, be                                 | ",
-        4,
-        16,
-        16,
-        Significance::Be,
-        Sign::Unsigned,
-    )
+    for (name, significance) in [
+        ("head 4, 16 bits, le", Significance::Le),
+        ("same, be", Significance::Be),
+    ] {
+        let field = Field::new(4, 16, 16, significance, Sign::Unsigned);
+        load(rt, name, field)?;
+    }
+    Ok(())
 }
 
 // Stores of CB, the number that the first load gives in Lsb0.
 fn stores(rt: &impl Print) -> io::Result<()> {
-    store(
-        rt,
-        b"CB le at head 4, 8 bits                  | ",
-        4,
-        8,
-        8,
-        Significance::Le,
-        Number::Up(0xCB),
-    )?;
-    store(
-        rt,
-        b"CB be at head 4, 8 bits                  | ",
-        4,
-        8,
-        8,
-        Significance::Be,
-        Number::Up(0xCB),
-    )
+    for (name, significance) in [
+        ("CB le at head 4, 8 bits", Significance::Le),
+        ("CB be at head 4, 8 bits", Significance::Be),
+    ] {
+        print!(rt; "{name:<40}")?;
+        for order in [Order::Lsb0, Order::Msb0] {
+            let mut bytes = [0u8; 3];
+            let field = Field::new(4, 8, 8, significance, Sign::Unsigned);
+            let answer = field.store(order, &mut bytes, 0xCB);
+            print!(rt; " | {}", Shown(answer.map(|()| Bytes(&bytes))))?;
+        }
+        println!(rt)?;
+    }
+    Ok(())
 }
 
 // Loads at the last head of a byte and at the one past it, which is refused.
 fn heads(rt: &impl Print) -> io::Result<()> {
-    load(
-        rt,
-        b"load, head 7, 8 bits                     | ",
-        7,
-        8,
-        8,
-        Significance::Le,
-        Sign::Unsigned,
-    )?;
-    load(
-        rt,
-        b"load, head 8, 8 bits                     | ",
-        8,
-        8,
-        8,
-        Significance::Le,
-        Sign::Unsigned,
-    )
+    for (name, head) in [("load, head 7, 8 bits", 7), ("load, head 8, 8 bits", 8)] {
+        let field = Field::new(head, 8, 8, Significance::Le, Sign::Unsigned);
+        load(rt, name, field)?;
+    }
+    Ok(())
 }
 
 // Loads of as many bits as the number has, of one more and of none. The last two are refused.
 fn lengths(rt: &impl Print) -> io::Result<()> {
-    load(
-        rt,
-        b"load, K = 8, 8 bits                      | ",
-        0,
-        8,
-        8,
-        Significance::Le,
-        Sign::Unsigned,
-    )?;
-    load(
-        rt,
-        b"load, K = 8, 9 bits                      | ",
-        0,
-        9,
-        8,
-        Significance::Le,
-        Sign::Unsigned,
-    )?;
-    load(
-        rt,
-        b"load, K = 8, 0 bits                      | ",
-        0,
-        0,
-        8,
-        Significance::Le,
-        Sign::Unsigned,
-    )
+    for (name, len) in [
+        ("load, K = 8, 8 bits", 8),
+        ("load, K = 8, 9 bits", 9),
+        ("load, K = 8, 0 bits", 0),
+    ] {
+        let field = Field::new(0, len, 8, Significance::Le, Sign::Unsigned);
+        load(rt, name, field)?;
+    }
+    Ok(())
 }
 
 // Strict stores of the greatest value that fits, and of one more, as a number of 16 bits and of 8. Both of these are refused.
 fn values(rt: &impl Print) -> io::Result<()> {
-    strict(
-        rt,
-        b"strict store, 255 in 8 bits, K = 8       | ",
-        4,
-        8,
-        8,
-        Number::Up(255),
-    )?;
-    strict(
-        rt,
-        b"strict store, 256 in 8 bits, K = 16      | ",
-        4,
-        8,
-        16,
-        Number::Up(256),
-    )?;
-    strict(
-        rt,
-        b"strict store, 256 in 8 bits, K = 8       | ",
-        4,
-        8,
-        8,
-        Number::Up(256),
-    )
+    for (name, k, value) in [
+        ("strict store, 255 in 8 bits, K = 8", 8, 255),
+        ("strict store, 256 in 8 bits, K = 16", 16, 256),
+        ("strict store, 256 in 8 bits, K = 8", 8, 256),
+    ] {
+        print!(rt; "{name:<40}")?;
+        for order in [Order::Lsb0, Order::Msb0] {
+            let mut bytes = [0u8; 3];
+            let field = Field::new(4, 8, k, Significance::Le, Sign::Unsigned);
+            let answer = field.store_strict(order, &mut bytes, value);
+            let answer = Shown(answer.map(|()| Reply::Done));
+            print!(rt; " | {answer}, {}", Bytes(&bytes))?;
+        }
+        println!(rt)?;
+    }
+    Ok(())
 }
 
-// The span of `len` bits from a head of the first byte on.
-fn at(order: Order, head: usize, len: usize) -> Span {
-    Span::new(order, 0, head, len)
-}
-
-// Prints the line on a load. An unsigned number is shown in hexadecimal, a signed one in decimal.
-fn load(
-    rt: &impl Print,
-    name: &[u8],
+// A field of `len` bits from a head of the first byte on, which holds a number of k bits.
+#[derive(Clone, Copy)]
+struct Field {
     head: usize,
     len: usize,
     k: usize,
     significance: Significance,
     sign: Sign,
-) -> io::Result<()> {
-    let bytes = [0xB4u8, 0x6C, 0xF1];
-    show::text(rt, name)?;
-    let left = field8::load(&bytes, at(Order::Lsb0, head, len), k, significance, sign);
-    let right = field8::load(&bytes, at(Order::Msb0, head, len), k, significance, sign);
-    match sign {
-        Sign::Unsigned => {
-            show::loaded_hex(rt, left)?;
-            show::next(rt)?;
-            show::loaded_hex(rt, right)?;
-        }
-        Sign::Signed => {
-            show::loaded(rt, left)?;
-            show::next(rt)?;
-            show::loaded(rt, right)?;
+}
+
+impl Field {
+    // The field of these parts.
+    fn new(head: usize, len: usize, k: usize, significance: Significance, sign: Sign) -> Field {
+        Field {
+            head,
+            len,
+            k,
+            significance,
+            sign,
         }
     }
-    show::end(rt)
+
+    // Its bits in an order.
+    fn span(self, order: Order) -> Span {
+        Span::new(order, 0, self.head, self.len)
+    }
+
+    // The number that it holds.
+    fn load(self, order: Order, bytes: &[u8]) -> Result<Number, Refusal> {
+        field::load(
+            bytes,
+            self.span(order),
+            self.k,
+            self.significance,
+            self.sign,
+        )
+    }
+
+    // The low bits of a value, placed in it.
+    fn store(self, order: Order, bytes: &mut [u8], value: u64) -> Result<(), Refusal> {
+        let value = Number::Up(value);
+        field::store(
+            bytes,
+            self.span(order),
+            self.k,
+            self.significance,
+            self.sign,
+            value,
+        )
+    }
+
+    // A value placed in it only if it fits.
+    fn store_strict(self, order: Order, bytes: &mut [u8], value: u64) -> Result<(), Refusal> {
+        let value = Number::Up(value);
+        field::store_strict(
+            bytes,
+            self.span(order),
+            self.k,
+            self.significance,
+            self.sign,
+            value,
+        )
+    }
 }
 
-// Prints three bytes.
-fn three(rt: &impl Print, a: u8, b: u8, c: u8) -> io::Result<()> {
-    show::byte(rt, a)?;
-    show::text(rt, b" ")?;
-    show::byte(rt, b)?;
-    show::text(rt, b" ")?;
-    show::byte(rt, c)
-}
-
-// Prints the line on a store.
-fn store(
-    rt: &impl Print,
-    name: &[u8],
-    head: usize,
-    len: usize,
-    k: usize,
-    significance: Significance,
-    value: Number,
-) -> io::Result<()> {
-    show::text(rt, name)?;
-    stored(rt, Order::Lsb0, head, len, k, significance, value)?;
-    show::next(rt)?;
-    stored(rt, Order::Msb0, head, len, k, significance, value)?;
-    show::end(rt)
-}
-
-// Prints what a store leaves in three empty bytes.
-fn stored(
-    rt: &impl Print,
-    order: Order,
-    head: usize,
-    len: usize,
-    k: usize,
-    significance: Significance,
-    value: Number,
-) -> io::Result<()> {
-    let mut bytes = [0u8, 0, 0];
-    field8::store(
-        &mut bytes,
-        at(order, head, len),
-        k,
-        significance,
-        Sign::Unsigned,
-        value,
-    );
-    three(rt, bytes[0], bytes[1], bytes[2])
-}
-
-// Prints the line on a strict store.
-fn strict(
-    rt: &impl Print,
-    name: &[u8],
-    head: usize,
-    len: usize,
-    k: usize,
-    value: Number,
-) -> io::Result<()> {
-    show::text(rt, name)?;
-    tried(rt, Order::Lsb0, head, len, k, value)?;
-    show::next(rt)?;
-    tried(rt, Order::Msb0, head, len, k, value)?;
-    show::end(rt)
-}
-
-// Prints what a strict store into three empty bytes answers, and what it leaves.
-fn tried(
-    rt: &impl Print,
-    order: Order,
-    head: usize,
-    len: usize,
-    k: usize,
-    value: Number,
-) -> io::Result<()> {
-    let mut bytes = [0u8, 0, 0];
-    let answer = field8::store_strict(
-        &mut bytes,
-        at(order, head, len),
-        k,
-        Significance::Le,
-        Sign::Unsigned,
-        value,
-    );
-    show::written(rt, answer)?;
-    show::text(rt, b", ")?;
-    three(rt, bytes[0], bytes[1], bytes[2])
+// Prints the line on a load. An unsigned number is shown in hexadecimal, a signed one in decimal.
+fn load(rt: &impl Print, name: &str, field: Field) -> io::Result<()> {
+    let bytes = [0xB4u8, 0x6C, 0xF1];
+    let left = field.load(Order::Lsb0, &bytes);
+    let right = field.load(Order::Msb0, &bytes);
+    match field.sign {
+        Sign::Unsigned => {
+            let left = Shown(left.map(|n| Hex(i128::from(n))));
+            let right = Shown(right.map(|n| Hex(i128::from(n))));
+            println!(rt; "{name:<40} | {left} | {right}")
+        }
+        Sign::Signed => { println!(rt; "{name:<40} | {} | {}", Shown(left), Shown(right)) }
+    }
 }

@@ -12,9 +12,12 @@ use std::io;
 // Prints the tables one after another.
 fn main(rt: HostRuntime) -> io::Result<()> {
     positions::run(&rt)?;
+    println!(&rt)?;
     fields::run(&rt)?;
+    println!(&rt)?;
     rows::run(&rt)?;
-    show::end(&rt)?;
+    println!(&rt)?;
     limits::run(&rt)?;
+    println!(&rt)?;
     numbers::run(&rt)
 }

@@ -1,3 +1,1 @@
-pub mod OnlyOne
-pub mod OnlyOne64
-pub mod OnlyOne8
+mod OnlyOne

@@ -1,19 +1,84 @@
--- No second outcome keeps the promise of a call of this crate without words: each call against the promise that its source states. Assumes nothing.
-use mathlib.Core.Path.{◌≡◌}
-use Rattle.border.proofs.OneOutcome.{told_only, rest_only}
-use Rattle.stableply.proofs.unlent.stableply_position.Reads as stableply_position
-use Rattle.stableply.proofs.unlent.stableply_selector.Reads as stableply_selector
-use Rattle.stableply.proofs.unlent.stableply_mask.Reads as stableply_mask
-use Rattle.stableply.proofs.unlent.stableply_split.Reads as stableply_split
+-- No second answer, and no second memory, keeps the promise of a call of this crate, as its source states it, whatever the words. Assumes nothing.
+use mathlib.Core.Path.{◌≡◌, sym, ◌∙◌}
+use Rattle.std.specs.Prelude.{map}
+use Rattle.border.proofs.OneOutcome.{one_position_told, one_selector_told, one_mask_told, one_rest_told, one_bit_told, one_number_told, one_equal_told}
+use Rattle.border.proofs.OneOutcome.{one_found_told, answered_only, exchanged_only}
+use Rattle.stableply.proofs.unlent.position.Reads as position
+use Rattle.stableply.proofs.unlent.selector.Reads as selector
+use Rattle.stableply.proofs.unlent.mask.Reads as mask
+use Rattle.stableply.proofs.unlent.split.Reads as split
+use Rattle.stableply.proofs.fields.read_bit.Reads as read_bit
+use Rattle.stableply.proofs.fields.write_bit.Reads as write_bit
+use Rattle.stableply.proofs.fields.load.Reads as load
+use Rattle.stableply.proofs.fields.store.Reads as store
+use Rattle.stableply.proofs.fields.store_strict.Reads as store_strict
+use Rattle.stableply.proofs.rows.copy_from.Reads as copy_from
+use Rattle.stableply.proofs.rows.copy_within.Reads as copy_within
+use Rattle.stableply.proofs.rows.boolean.Reads as boolean
+use Rattle.stableply.proofs.rows.swap.Reads as swap
+use Rattle.stableply.proofs.rows.equal.Reads as equal
+use Rattle.stableply.proofs.searches.first_one.Reads as first_one
+use Rattle.stableply.proofs.searches.last_one.Reads as last_one
+use Rattle.stableply.proofs.searches.first_zero.Reads as first_zero
+use Rattle.stableply.proofs.searches.last_zero.Reads as last_zero
 
-stableply_position_only : (κs a r r' x x' : _) → stableply_position.Post κs a r x → stableply_position.Post κs a r' x' → (r ≡ r') × (x.1.1.1.0.now ≡ x'.1.1.1.0.now)
-stableply_position_only κs a r r' x x' p q = told_only p q
+position_only : (κs a r r' x x' : _) → position.Post κs a r x → position.Post κs a r' x' → r ≡ r'
+position_only κs a r r' x x' p q = one_position_told r r' (p ∙ sym q)
 
-stableply_selector_only : (κs a r r' x x' : _) → stableply_selector.Post κs a r x → stableply_selector.Post κs a r' x' → (r ≡ r') × (x.1.1.1.0.now ≡ x'.1.1.1.0.now)
-stableply_selector_only κs a r r' x x' p q = told_only p q
+selector_only : (κs a r r' x x' : _) → selector.Post κs a r x → selector.Post κs a r' x' → r ≡ r'
+selector_only κs a r r' x x' p q = one_selector_told r r' (p ∙ sym q)
 
-stableply_mask_only : (κs a r r' x x' : _) → stableply_mask.Post κs a r x → stableply_mask.Post κs a r' x' → (r ≡ r') × (x.1.1.1.1.0.now ≡ x'.1.1.1.1.0.now)
-stableply_mask_only κs a r r' x x' p q = told_only p q
+mask_only : (κs a r r' x x' : _) → mask.Post κs a r x → mask.Post κs a r' x' → r ≡ r'
+mask_only κs a r r' x x' p q = one_mask_told r r' (p ∙ sym q)
 
-stableply_split_only : (κs a r r' x x' : _) → stableply_split.Post κs a r x → stableply_split.Post κs a r' x' → (r ≡ r') × (x.1.1.1.1.1.1.1.0.now ≡ x'.1.1.1.1.1.1.1.0.now) × (x.1.1.1.1.1.1.1.1.0.now ≡ x'.1.1.1.1.1.1.1.1.0.now) × (x.1.1.1.1.1.1.1.1.1.0.now ≡ x'.1.1.1.1.1.1.1.1.1.0.now)
-stableply_split_only κs a r r' x x' p q = rest_only p q
+split_only : (κs a r r' x x' : _) → split.Post κs a r x → split.Post κs a r' x' → r ≡ r'
+split_only κs a r r' x x' p q = one_rest_told r r' (p ∙ sym q)
+
+read_bit_only : (T W l s c h d k e κs a r r' x x' : _) → read_bit.Post T W l s c h d k e κs a r x → read_bit.Post T W l s c h d k e κs a r' x' → r ≡ r'
+read_bit_only T W l s c h d k e κs a r r' x x' p q = one_bit_told r r' (p ∙ sym q)
+
+write_bit_only : (T W l s c h d k e κs a r r' x x' : _) → write_bit.Post T W l s c h d k e κs a r x → write_bit.Post T W l s c h d k e κs a r' x'
+    → (r ≡ r') × (map h.value x.0.now ≡ map h.value x'.0.now)
+write_bit_only T W l s c h d k e κs a r r' x x' p q = answered_only p q
+
+load_only : (T W l s c u v h d k e κs a r r' x x' : _) → load.Post T W l s c u v h d k e κs a r x → load.Post T W l s c u v h d k e κs a r' x' → r ≡ r'
+load_only T W l s c u v h d k e κs a r r' x x' p q = one_number_told r r' (p ∙ sym q)
+
+store_only : (T W l s c u v h d k e κs a r r' x x' : _) → store.Post T W l s c u v h d k e κs a r x → store.Post T W l s c u v h d k e κs a r' x'
+    → (r ≡ r') × (map h.value x.0.now ≡ map h.value x'.0.now)
+store_only T W l s c u v h d k e κs a r r' x x' p q = answered_only p q
+
+store_strict_only : (T W l s c u v h d k e κs a r r' x x' : _) → store_strict.Post T W l s c u v h d k e κs a r x → store_strict.Post T W l s c u v h d k e κs a r' x'
+    → (r ≡ r') × (map h.value x.0.now ≡ map h.value x'.0.now)
+store_strict_only T W l s c u v h d k e κs a r r' x x' p q = answered_only p q
+
+copy_from_only : (T W l s c h d k e κs a r r' x x' : _) → copy_from.Post T W l s c h d k e κs a r x → copy_from.Post T W l s c h d k e κs a r' x'
+    → (r ≡ r') × (map h.value x.0.now ≡ map h.value x'.0.now)
+copy_from_only T W l s c h d k e κs a r r' x x' p q = answered_only p q
+
+copy_within_only : (T W l s c h d k e κs a r r' x x' : _) → copy_within.Post T W l s c h d k e κs a r x → copy_within.Post T W l s c h d k e κs a r' x'
+    → (r ≡ r') × (map h.value x.0.now ≡ map h.value x'.0.now)
+copy_within_only T W l s c h d k e κs a r r' x x' p q = answered_only p q
+
+boolean_only : (T W l s c h d k e κs a r r' x x' : _) → boolean.Post T W l s c h d k e κs a r x → boolean.Post T W l s c h d k e κs a r' x'
+    → (r ≡ r') × (map h.value x.0.now ≡ map h.value x'.0.now)
+boolean_only T W l s c h d k e κs a r r' x x' p q = answered_only p q
+
+swap_only : (T W l s c h d k e κs a r r' x x' : _) → swap.Post T W l s c h d k e κs a r x → swap.Post T W l s c h d k e κs a r' x'
+    → (r ≡ r') × (map h.value x.0.now ≡ map h.value x'.0.now) × (map h.value x.1.1.0.now ≡ map h.value x'.1.1.0.now)
+swap_only T W l s c h d k e κs a r r' x x' p q = exchanged_only p q
+
+equal_only : (T W l s c h d k e κs a r r' x x' : _) → equal.Post T W l s c h d k e κs a r x → equal.Post T W l s c h d k e κs a r' x' → r ≡ r'
+equal_only T W l s c h d k e κs a r r' x x' p q = one_equal_told r r' (p ∙ sym q)
+
+first_one_only : (T W l s c h d k e κs a r r' x x' : _) → first_one.Post T W l s c h d k e κs a r x → first_one.Post T W l s c h d k e κs a r' x' → r ≡ r'
+first_one_only T W l s c h d k e κs a r r' x x' p q = one_found_told r r' (p ∙ sym q)
+
+last_one_only : (T W l s c h d k e κs a r r' x x' : _) → last_one.Post T W l s c h d k e κs a r x → last_one.Post T W l s c h d k e κs a r' x' → r ≡ r'
+last_one_only T W l s c h d k e κs a r r' x x' p q = one_found_told r r' (p ∙ sym q)
+
+first_zero_only : (T W l s c h d k e κs a r r' x x' : _) → first_zero.Post T W l s c h d k e κs a r x → first_zero.Post T W l s c h d k e κs a r' x' → r ≡ r'
+first_zero_only T W l s c h d k e κs a r r' x x' p q = one_found_told r r' (p ∙ sym q)
+
+last_zero_only : (T W l s c h d k e κs a r r' x x' : _) → last_zero.Post T W l s c h d k e κs a r x → last_zero.Post T W l s c h d k e κs a r' x' → r ≡ r'
+last_zero_only T W l s c h d k e κs a r r' x x' p q = one_found_told r r' (p ∙ sym q)

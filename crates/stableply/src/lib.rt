@@ -1,12 +1,8 @@
-// The calls as other languages make them, by numbers and codes: each returns 0 where the request is accepted, else the number of refusal, or 255
-// where an argument is no code of this interface. What a reference leads to is written only where the call returns 0. The crate `stableply_c`
-// exports them.
+// The calls by numbers and codes, over words of any width: each answers what was asked for, or the fault that it is not done for. Words are
+// written only where the call answers `Ok`. The crate `stableply_c` exports them to other languages.
 #![tactic(auto)]
 
-pub mod fields64;
-pub mod fields8;
-pub mod rows64;
-pub mod rows8;
-pub mod searches64;
-pub mod searches8;
+pub mod fields;
+pub mod rows;
+pub mod searches;
 pub mod unlent;

@@ -2,6 +2,9 @@
 ghost use Rattle.rules.specs.Calls.{find_first, find_last, answer};
 ghost use Rattle.border.specs.Border.{span_of, none, behind, Found};
 
+use border::{NamedSpan, leave_found};
+use stableply::searches;
+
 // The smallest index of a one, counted from the span's start, or absent.
 #[unsafe(no_mangle)]
 pub extern "C" fn stableply64_first_one(
@@ -16,7 +19,8 @@ pub extern "C" fn stableply64_first_one(
     ensures { Found (behind (none order) (answer 64 (find_first 1 (span_of order word head length)) words.now)) found.old
         at.old result found.new at.new }
 {
-    stableply::searches64::stableply64_first_one(words, order, word, head, length, found, at)
+    let span = NamedSpan::new(order, word, head, length);
+    leave_found(searches::first_one(words, span), found, at)
 }
 
 // The largest index of a one.
@@ -33,7 +37,8 @@ pub extern "C" fn stableply64_last_one(
     ensures { Found (behind (none order) (answer 64 (find_last 1 (span_of order word head length)) words.now)) found.old
         at.old result found.new at.new }
 {
-    stableply::searches64::stableply64_last_one(words, order, word, head, length, found, at)
+    let span = NamedSpan::new(order, word, head, length);
+    leave_found(searches::last_one(words, span), found, at)
 }
 
 // The smallest index of a zero.
@@ -50,7 +55,8 @@ pub extern "C" fn stableply64_first_zero(
     ensures { Found (behind (none order) (answer 64 (find_first 0 (span_of order word head length)) words.now)) found.old
         at.old result found.new at.new }
 {
-    stableply::searches64::stableply64_first_zero(words, order, word, head, length, found, at)
+    let span = NamedSpan::new(order, word, head, length);
+    leave_found(searches::first_zero(words, span), found, at)
 }
 
 // The largest index of a zero.
@@ -67,5 +73,6 @@ pub extern "C" fn stableply64_last_zero(
     ensures { Found (behind (none order) (answer 64 (find_last 0 (span_of order word head length)) words.now)) found.old
         at.old result found.new at.new }
 {
-    stableply::searches64::stableply64_last_zero(words, order, word, head, length, found, at)
+    let span = NamedSpan::new(order, word, head, length);
+    leave_found(searches::last_zero(words, span), found, at)
 }

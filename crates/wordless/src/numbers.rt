@@ -6,42 +6,31 @@ ghost use Rattle.rules.specs.Answers.{number_says, low_bits_says, machine_says};
 
 use pieces::low_ones;
 use refusals::{check_field, check_fit, check_value};
-use rules::{LowBitsAnswer, MachineAnswer, Number, NumberAnswer, Refusal, Sign, Verdict};
+use rules::{Number, Refusal, Sign};
 
 // The low `len` bits of a value, as a store places them; refusals 4, 5 and 8.
-pub fn low_bits(value: Number, k: usize, len: usize, sign: Sign) -> LowBitsAnswer
+pub fn low_bits(value: Number, k: usize, len: usize, sign: Sign) -> Result<u64, Refusal>
     ensures { low_bits_says result ≡ low_bits_answer k len sign (whole value) }
 {
-    let verdict = check_value(value, k, len, sign);
-    match verdict {
-        Verdict::Refused(no) => LowBitsAnswer::Refused(no),
-        Verdict::Fine => LowBitsAnswer::Is(bits(value, k, sign) & low_ones(len)),
-    }
+    check_value(value, k, len, sign)?;
+    Ok(bits(value, k, sign) & low_ones(len))
 }
 
 // The same of a value that fits, as a strict store places them; refusals 4, 5, 8 and 9.
-pub fn fitting_bits(value: Number, k: usize, len: usize, sign: Sign) -> LowBitsAnswer
+pub fn fitting_bits(value: Number, k: usize, len: usize, sign: Sign) -> Result<u64, Refusal>
     ensures { low_bits_says result ≡ fitting_answer k len sign (whole value) }
 {
-    let verdict = check_fit(value, k, len, sign);
-    match verdict {
-        Verdict::Refused(no) => LowBitsAnswer::Refused(no),
-        Verdict::Fine => LowBitsAnswer::Is(bits(value, k, sign) & low_ones(len)),
-    }
+    check_fit(value, k, len, sign)?;
+    Ok(bits(value, k, sign) & low_ones(len))
 }
 
 // The number that the low `len` bits of `loaded` stand for: as they are, or with the sign extended; refusals 4 and 5.
-pub fn read(loaded: u64, k: usize, len: usize, sign: Sign) -> NumberAnswer
+pub fn read(loaded: u64, k: usize, len: usize, sign: Sign) -> Result<Number, Refusal>
     ensures { number_says result ≡ read_answer k len sign loaded }
 {
-    let verdict = check_field(k, len);
-    match verdict {
-        Verdict::Refused(no) => NumberAnswer::Refused(no),
-        Verdict::Fine => {
-            let low = loaded & low_ones(len);
-            NumberAnswer::Is(of_bits(low, len, sign))
-        }
-    }
+    check_field(k, len)?;
+    let low = loaded & low_ones(len);
+    Ok(of_bits(low, len, sign))
 }
 
 // The machine's signed integer as a number.
@@ -56,22 +45,22 @@ pub fn from_i64(z: i64) -> Number
 }
 
 // A number as the machine's signed integer; 8 where it is none of 64 bits.
-pub fn to_i64(value: Number) -> MachineAnswer
+pub fn to_i64(value: Number) -> Result<i64, Refusal>
     ensures { machine_says result ≡ machine_answer (whole value) }
 {
     match value {
         Number::Up(n) => {
             if n <= 0x7fff_ffff_ffff_ffff {
-                MachineAnswer::Is(n as i64)
+                Ok(n as i64)
             } else {
-                MachineAnswer::Refused(Refusal::NotAnInteger)
+                Err(Refusal::NotAnInteger)
             }
         }
         Number::Down(n) => {
             if n <= 0x7fff_ffff_ffff_ffff {
-                MachineAnswer::Is(!(n as i64))
+                Ok(!(n as i64))
             } else {
-                MachineAnswer::Refused(Refusal::NotAnInteger)
+                Err(Refusal::NotAnInteger)
             }
         }
     }

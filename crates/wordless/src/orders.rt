@@ -6,51 +6,48 @@ ghost use Rattle.rules.specs.Calls.{position_answer, selector_answer, mask_answe
 ghost use Rattle.rules.specs.Answers.{position_says, selector_says, mask_says};
 
 use pieces::mask_at;
-use rules::{
-    End, Index, Mask, MaskAnswer, Order, Position, PositionAnswer, Refusal, Selector,
-    SelectorAnswer, Width,
-};
+use rules::{End, Index, Mask, Order, Position, Refusal, Selector, Width};
 
 // The real position of an index in a word; an index of W or more is refused 2.
-pub fn position(width: Width, order: Order, index: Index) -> PositionAnswer
+pub fn position(width: Width, order: Order, index: Index) -> Result<Position, Refusal>
     ensures { position_says result ≡ position_answer (bits width) order index.0 }
 {
     let i = index.0;
     if width.bits() <= i {
-        return PositionAnswer::Refused(Refusal::IndexTooLarge);
+        return Err(Refusal::IndexTooLarge);
     }
-    PositionAnswer::Is(position_of(width, order, index))
+    Ok(position_of(width, order, index))
 }
 
 // The selector of an index, 2 to its position; an index of W or more is refused 2.
-pub fn selector(width: Width, order: Order, index: Index) -> SelectorAnswer
+pub fn selector(width: Width, order: Order, index: Index) -> Result<Selector, Refusal>
     ensures { selector_says result ≡ selector_answer (bits width) order index.0 }
 {
     let i = index.0;
     if width.bits() <= i {
-        return SelectorAnswer::Refused(Refusal::IndexTooLarge);
+        return Err(Refusal::IndexTooLarge);
     }
     let at = position_of(width, order, index);
-    SelectorAnswer::Is(selector_at(at))
+    Ok(selector_at(at))
 }
 
 // The mask of the indexes from `from` up to but without `upto`: 2 where `from` is W or more, 10 where `upto` is above W or below `from`.
-pub fn mask(width: Width, order: Order, from: Index, upto: End) -> MaskAnswer
+pub fn mask(width: Width, order: Order, from: Index, upto: End) -> Result<Mask, Refusal>
     ensures { mask_says result ≡ mask_answer (bits width) order from.0 upto.0 }
 {
     let w = width.bits();
     let f = from.0;
     let u = upto.0;
     if w <= f {
-        return MaskAnswer::Refused(Refusal::IndexTooLarge);
+        return Err(Refusal::IndexTooLarge);
     }
     if w < u {
-        return MaskAnswer::Refused(Refusal::NotBelow);
+        return Err(Refusal::NotBelow);
     }
     if u < f {
-        return MaskAnswer::Refused(Refusal::NotBelow);
+        return Err(Refusal::NotBelow);
     }
-    MaskAnswer::Is(mask_of(width, order, from, upto))
+    Ok(mask_of(width, order, from, upto))
 }
 
 // The real position of an index that the caller has seen to be below the width.

@@ -11,7 +11,7 @@ use lib.ListN.{length, get_or}
 use lib.Dec.{eqb}
 use lib.Bits.{bit_and, and_high}
 use lib.Pow.{pow-add, pow_pos}
-use Rattle.laws.specs.Types.{Span, Fine}
+use Rattle.laws.specs.Types.{Span, Ok}
 use Rattle.rules.specs.Bits.{bit_n}
 use Rattle.rules.specs.Positions.{position}
 use Rattle.rules.specs.Refusals.{verdict, bit_cases}
@@ -35,7 +35,7 @@ told b t h pos = go (bit_cases_lem b h)
     go (inr e) = rw (e, one-mul t, ne_eqb t 0 (λ z. omega arith)) refl
 
 -- the bit, as a test of what its word and its selector have in common
-pub read_selected : (W : ℕ) (ws : List ℕ) (s : Span) (i : ℕ) {p x m : ℕ} → verdict (bit_cases W (length ws) s i) ≡ Fine
+pub read_selected : (W : ℕ) (ws : List ℕ) (s : Span) (i : ℕ) {p x m : ℕ} → verdict (bit_cases W (length ws) s i) ≡ Ok tt
     → p ≡ position W s.order ((s.head.0 + i) % W) → m ≡ 2 ^ p → x ≡ get_or ws (s.word + (s.head.0 + i) / W) 0
     → a_bit (digit (not (eqb (bit_and x m) 0))) ≡ answer W (read_bit s i) ws
 unfolding cases answer!

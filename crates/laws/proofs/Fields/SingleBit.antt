@@ -6,7 +6,7 @@ use mathlib.Core.List.{List}
 use native.Mathlib.Nat.{add-mul, div-add-mod'}
 use native.Mathlib.Omega.{arith}
 use lib.ListN.{length}
-use Rattle.laws.specs.Types.{Span, Refusal, Fine, Refused, Done, Write-as-Refused, Order, Le}
+use Rattle.laws.specs.Types.{Span, Refusal, Ok, Err, Order, Le}
 use Rattle.rules.specs.Bits.{bit_n}
 use Rattle.rules.specs.Positions.{start, spliced}
 use Rattle.rules.specs.Refusals.{number, verdict, bit_cases}
@@ -28,19 +28,19 @@ store_bit W pos o ws j v =
     (λ i l. ap (bit_n v) (lt-one ((exponent_renumbers W pos j 1 o Le).below i l)) ∙ bit_zero v)
 
 module _ (W : ℕ) (ws : List ℕ) (s : Span) (i : ℕ) where
-  pub read_refused : (r : Refusal) → verdict (bit_cases W (length ws) s i) ≡ Refused r → refused (number r) ≡ answer W (read_bit s i) ws
+  pub read_refused : (r : Refusal) → verdict (bit_cases W (length ws) s i) ≡ Err r → refused (number r) ≡ answer W (read_bit s i) ws
   unfolding cases
   read_refused r e = sym (refused_call W (read_bit s i) ws r e).0
 
-  pub write_refused : (v : Bool) (r : Refusal) {m : List ℕ} → verdict (bit_cases W (length ws) s i) ≡ Refused r → m ≡ ws
-      → Gives W (write_bit s i v) ws (write_says (Write-as-Refused r)) m
+  pub write_refused : (v : Bool) (r : Refusal) {m : List ℕ} → verdict (bit_cases W (length ws) s i) ≡ Err r → m ≡ ws
+      → Gives W (write_bit s i v) ws (write_says (Err r)) m
   unfolding cases
   write_refused v r e em =
       let c = refused_call W (write_bit s i v) ws r e in
       record { answers = sym c.0; holds = em ∙ sym c.1 }
 
-  pub write_done : (v : Bool) {m : List ℕ} → verdict (bit_cases W (length ws) s i) ≡ Fine → m ≡ spliced W s.order ws (start W s + i) 1 (λ _. digit v)
-      → Gives W (write_bit s i v) ws (write_says Done) m
+  pub write_done : (v : Bool) {m : List ℕ} → verdict (bit_cases W (length ws) s i) ≡ Ok tt → m ≡ spliced W s.order ws (start W s + i) 1 (λ _. digit v)
+      → Gives W (write_bit s i v) ws (write_says (Ok tt)) m
   unfolding cases answer! after!
   write_done v e em =
       let c = accepted_call W (write_bit s i v) ws e in
@@ -48,7 +48,7 @@ module _ (W : ℕ) (ws : List ℕ) (s : Span) (i : ℕ) where
 
 -- ---- the bit as a piece of its word
 
-module _ (W : ℕ) (ws : List ℕ) (s : Span) (i : ℕ) (e : verdict (bit_cases W (length ws) s i) ≡ Fine) where
+module _ (W : ℕ) (ws : List ℕ) (s : Span) (i : ℕ) (e : verdict (bit_cases W (length ws) s i) ≡ Ok tt) where
   pub write_piece : (v : Bool) {m : List ℕ} → m ≡ store_of W s.order Le ws ((s.word + (s.head.0 + i) / W) * W + (s.head.0 + i) % W) 1 (digit v)
       → m ≡ spliced W s.order ws (start W s + i) 1 (λ _. digit v)
   unfolding start

@@ -1,12 +1,14 @@
 -- Rows worked on in place, a word or a piece of a word at a time: moved inside one buffer, and exchanged between two at equal heads.
 -- Assumes nothing.
 use mathlib.Core.Path.{◌≡◌, refl, sym, ap, ap₂, ◌∙◌}
-use mathlib.Core.Logic.{◌⊎◌}
+use mathlib.Core.Logic.{◌⊎◌, inl, inr, ⊎_elim}
 use mathlib.Core.List.{List}
 use Prim.Native.Nat.{ℕ, ◌+◌, ◌-◌, ◌*◌, ◌/◌, ◌%◌, ◌^◌, ◌≤◌, ◌<◌}
-use native.Mathlib.Nat.{add-zero, zero-add, add-mul, one-mul}
+use native.Mathlib.Nat.{add-zero, zero-add, add-mul, one-mul, mul-le-mul_right}
 use native.Mathlib.Omega.{arith}
 use lib.ListN.{length, get_or, set}
+use Rattle.std.specs.Prelude.{map}
+use Rattle.std.proofs.lemmas.List.{length-map, map-set}
 use Rattle.laws.specs.Types.{Order}
 use Rattle.rules.specs.Bits.{bit_n}
 use Rattle.rules.specs.Positions.{position, row, spliced}
@@ -84,3 +86,28 @@ module _ (W : ℕ) (pos : 0 < W) (o : Order) where
   near_put ws vs d s n e fits q =
       q ∙ splice_eq W pos o ws d n (λ i. bit_n (get_or vs (s / W) 0) (position W o (d % W + i))) (λ i. row W o vs (s + i))
       (λ i l. ap (λ (x : ℕ). bit_n (get_or vs (s / W) 0) (position W o (x + i))) e ∙ sym (row_near W o vs s i (omega arith)))
+
+-- ---- a word of a type that is made anew from W bits of its buffer, which begin at index h of word b + i, and stored as word a + i: one word more is
+-- moved, of k. The bits reach e words further than the k that they begin in: none at h 0, else one.
+
+module _ {Word : Type 0} (value : Word → ℕ) (W : ℕ) (pos : 0 < W) (o : Order) (ws one : List Word) (a b h e k i : ℕ) (x : Word) (in_word : h ≤ e * W) (next : i < k)
+    (reads : b + k + e ≤ length ws) (fits : a + k ≤ length ws) (new : Words W (map value one) → value x ≡ word_from W o (map value one) ((b + i) * W + h)) where
+  many : (m n : ℕ) → m + n ≤ length ws → m * W + n * W ≤ length (map value ws) * W
+  many m n l = rw (length-map ws value) (omega (arith, mul-le-mul_right W l, add-mul m n W))
+
+  pub stored_up : (a ≤ b) ⊎ (b + k + e ≤ a) → map value one ≡ moved W o (map value ws) (b * W + h) (a * W) (i * W)
+      → map value (set one (a + i) x) ≡ moved W o (map value ws) (b * W + h) (a * W) ((i + 1) * W)
+  stored_up apart before =
+      map-set value one (a + i) x
+      ∙ word_up W pos o (map value ws) a b h i (rw (length-map ws value) (omega arith)) (omega (arith, many b (i + 1 + e) (omega arith))) (many a (i + 1) (omega arith))
+      (⊎_elim (λ l. inl (omega (arith, mul-le-mul_right W l)))
+      (λ l. let m : b + (i + 1 + e) ≤ a = omega arith in inr (omega (arith, mul-le-mul_right W m))) apart)
+      before new
+
+  pub stored_down : (j : ℕ) → j ≡ i + 1 → b + e ≤ a → map value one ≡ moved W o (map value ws) (b * W + h + j * W) (a * W + j * W) ((k - j) * W)
+      → map value (set one (a + i) x) ≡ moved W o (map value ws) (b * W + h + i * W) (a * W + i * W) ((k - i) * W)
+  stored_down j q above before =
+      map-set value one (a + i) x
+      ∙ word_down W pos o (map value ws) a b h k i j q (omega arith) (rw (length-map ws value) fits) (omega (arith, many b (k + e) (omega arith))) (many a k fits)
+      (omega (arith, mul-le-mul_right W above))
+      before new

@@ -58,7 +58,7 @@ pub part_word : (ws : List ℕ) (b m i : ℕ) → i < m → get_or (take m (drop
 part_word ws b m i l = get_or-take m (drop b ws) i 0 l ∙ get_or-drop b ws i 0
 
 -- a part has as many words as were lent
-pub mid_length : (ws : List ℕ) (a n k : ℕ) → n ≡ k → a + k ≤ length ws → length (take n (drop a ws)) ≡ k
+pub mid_length : {X : Type 0} (ws : List X) (a n k : ℕ) → n ≡ k → a + k ≤ length ws → length (take n (drop a ws)) ≡ k
 mid_length ws a n k e room = length-take-le n (drop a ws) (simp length-drop (omega arith)) ∙ e
 
 get_or_past : (xs ys : List ℕ) (i n : ℕ) → length xs ≡ n → n ≤ i → get_or (xs ++ ys) i 0 ≡ get_or ys (i - n) 0

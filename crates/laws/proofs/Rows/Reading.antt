@@ -4,13 +4,13 @@ use Prim.Native.Nat.{ℕ}
 use mathlib.Core.Path.{◌≡◌, refl}
 use mathlib.Core.List.{List}
 use lib.ListN.{length}
-use Rattle.laws.specs.Types.{Span, Significance, Sign, Verdict, Fine, Refused}
+use Rattle.laws.specs.Types.{Span, Significance, Sign, Verdict, Ok, Err}
 use Rattle.rules.specs.Refusals.{verdict}
 use Rattle.rules.specs.Calls.{Side, here, there, unless, read_bit, load, equal, find_first, find_last, cases, answer!, after!, answer, after}
 
 kept : (v : Verdict) (ws : List ℕ) → unless v ws ws ≡ ws
-kept Fine ws = refl
-kept (Refused r) ws = refl
+kept (Ok _) ws = refl
+kept (Err r) ws = refl
 
 module _ (W : ℕ) (ws : List ℕ) where
   pub read_bit_leaves : (s : Span) (i : ℕ) → after W (read_bit s i) ws ≡ ws

@@ -1,14 +1,14 @@
 -- Words that are all one word f: parts, joins, and the `or` of their differences from f. Assumes nothing.
-use mathlib.Core.Path.{◌≡◌, refl, sym, ◌∙◌}
+use mathlib.Core.Path.{◌≡◌, refl, sym, ap, ◌∙◌}
 use mathlib.Core.Logic.{◌≢◌}
 use mathlib.Core.List.{List}
 use Prim.Native.Nat.{ℕ, ◌+◌, ◌-◌, ◌≤◌, ◌<◌}
 use native.Mathlib.Decide.{dec_lt}
 use native.Mathlib.Omega.{arith}
-use lib.ListN.{length, get_or, take, drop}
+use lib.ListN.{get_or, take, drop}
 use lib.Bits.{bit_or, bit_xor}
 use Rattle.laws.proofs.Words.Agree.{Differs, differs_none, differs_more}
-use Rattle.laws.proofs.Rows.Part.{part_word, mid_length}
+use Rattle.laws.proofs.Rows.Part.{part_word}
 
 -- the words from a up to but without e are f
 abbrev pub Alike : ℕ → List ℕ → ℕ → ℕ → Type 0
@@ -34,20 +34,22 @@ alike_one f ws i j e p k l m = let q : k ≡ i = omega arith in rw q p
 abbrev pub Gathered : ℕ → List ℕ → ℕ → ℕ → Type 0
 Gathered f ws i v = Differs v i (λ k. get_or ws k 0) (λ _. f)
 
-pub gathered_none : (f : ℕ) (ws : List ℕ) → Gathered f ws 0 0
-gathered_none f ws = differs_none (λ k. get_or ws k 0) (λ _. f)
+pub gathered_none : (f : ℕ) (ws : List ℕ) {v : ℕ} → v ≡ 0 → Gathered f ws 0 v
+gathered_none f ws e = differs_none e (λ k. get_or ws k 0) (λ _. f)
 
 -- and so one word further
-pub gathered_more : (f : ℕ) (ws : List ℕ) (i v : ℕ) → Gathered f ws i v → Gathered f ws (i + 1) (bit_or v (bit_xor (get_or ws i 0) f))
-gathered_more f ws i v = differs_more v i (get_or ws i 0) f (λ k. get_or ws k 0) (λ _. f) refl refl
+pub gathered_more : (f : ℕ) (ws : List ℕ) (i v : ℕ) {x : ℕ} → x ≡ get_or ws i 0 → Gathered f ws i v → Gathered f ws (i + 1) (bit_or v (bit_xor x f))
+gathered_more f ws i v {x} e = differs_more v i x f (λ k. get_or ws k 0) (λ _. f) e refl
 
 -- a block, the words from i up to j, lent on to be gathered
-module _ (f : ℕ) (ws : List ℕ) (i j n : ℕ) (to : i + n ≡ j) (fits : j ≤ length ws) {v : ℕ} (g : Gathered f (take n (drop i ws)) (length (take n (drop i ws))) v) where
+module _ (f : ℕ) (ws : List ℕ) (i j : ℕ) {block : List ℕ} (is : block ≡ take (j - i) (drop i ws)) {n v : ℕ} (to : i + n ≡ j) (g : Gathered f block n v) where
+  word : (k : ℕ) → k < n → get_or block k 0 ≡ get_or ws (i + k) 0
+  word k l = ap (λ (b : List ℕ). get_or b k 0) is ∙ part_word ws i (j - i) k (omega arith)
+
   pub block_alike : v ≡ 0 → Alike f ws i j
   block_alike e k l m =
       let q : i + (k - i) ≡ k = omega arith in
-      rw q at (sym (part_word ws i n (k - i) (omega arith)) ∙ g.none_all e (k - i) (omega (arith, mid_length ws i n n refl (omega arith))))
+      rw q at (sym (word (k - i) (omega arith)) ∙ g.none_all e (k - i) (omega arith))
 
   pub block_other : v ≢ 0 → Alike f ws i j → ⊥
-  block_other e all =
-      e (g.all_none (λ k m. let h : k < n = omega (arith, mid_length ws i n n refl (omega arith)) in part_word ws i n k h ∙ all (i + k) (omega arith) (omega arith)))
+  block_other e all = e (g.all_none (λ k m. word k m ∙ all (i + k) (omega arith) (omega arith)))

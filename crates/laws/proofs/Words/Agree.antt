@@ -97,8 +97,8 @@ differ_self x y e = rw e (self y)
     self zero = refl
     self (suc y) = self y
 
-pub differs_none : (b c : ℕ → ℕ) → Differs 0 0 b c
-differs_none b c = record { none_all = λ e i l. absurd (omega arith); all_none = λ all. refl }
+pub differs_none : {v : ℕ} → v ≡ 0 → (b c : ℕ → ℕ) → Differs v 0 b c
+differs_none z b c = record { none_all = λ e i l. absurd (omega arith); all_none = λ all. z }
 
 pub differs_more : (v i x y : ℕ) (b c : ℕ → ℕ) → x ≡ b i → y ≡ c i → Differs v i b c → Differs (bit_or v (bit_xor x y)) (i + 1) b c
 differs_more v i x y b c ex ey d = record { none_all = λ e k l. go e k l (dec_lt k i); all_none = back }

@@ -13,6 +13,8 @@ use lib.Bits.{bit_and, bit_or, bit_xor, and_lt, or_lt, xor_lt}
 use lib.Pow.{pow_pos, ones_lt}
 use borrow.Rule.Slice.PartMut.{put_mid, mid_of}
 use Rattle.laws.specs.Types.{Order}
+use Rattle.std.specs.Prelude.{map}
+use Rattle.std.proofs.lemmas.List.{length-map}
 use Rattle.rules.specs.Bits.{bit_n, of_bits}
 use Rattle.rules.specs.Positions.{position, row, spliced}
 use Rattle.rules.specs.Rows.{applied}
@@ -24,7 +26,8 @@ use Rattle.rules.proofs.Sentences.Operations.{and_applied, or_applied, xor_appli
 use Rattle.laws.proofs.Words.Merged.{selected, select_on, select_off, select_lt}
 use Rattle.laws.proofs.Words.Moves.{Carries}
 use Rattle.laws.proofs.Words.Wholes.{word_on, lent_words}
-use Rattle.laws.proofs.Rows.Part.{row_near, part_word, grown}
+use Rattle.laws.proofs.Rows.Part.{row_near, part_word, mid_length, grown}
+use Rattle.laws.proofs.Words.Typed.{row_below, mid_map, lent_length, lent_map}
 
 -- ---- one word
 
@@ -150,6 +153,19 @@ module _ (W : ℕ) (pos : 0 < W) (o : Order) (ws : List ℕ) (d op : ℕ) (R : �
       (ap (row W o one) (add_assoc d i j) ∙ ap (λ (x : List ℕ). row W o x (d + (i + j))) p
       ∙ spliced_past W pos o ws d i (λ j. applied op (row W o ws (d + j)) (R j)) (omega arith) (d + (i + j)) (omega arith) (omega arith))
       (same j l))
+
+-- whole words of a type that were lent on, the i-th combined with the number y i
+pub lent_combined : {Word : Type 0} (value : Word → ℕ) (W : ℕ) → 0 < W → ((x : Word) → value x < 2 ^ W) → (o : Order) (ws left : List Word) (d op : ℕ) (R : ℕ → ℕ)
+    → (a n k : ℕ) → n ≡ k → a * W ≡ d → a + k ≤ length ws → length left ≡ length (mid_of a n ws) → (y : ℕ → ℕ)
+    → ((i : ℕ) → i < length (mid_of a n ws) → get_or (map value left) i 0 ≡ wordwise W op (get_or (map value (mid_of a n ws)) i 0) (y i))
+    → ((i : ℕ) → i < k → (p : ℕ) → p < W → bit_n (y i) p ≡ R (i * W + position W o p))
+    → map value (put_mid a n ws left) ≡ spliced W o (map value ws) d (k * W) (λ j. applied op (row W o (map value ws) (d + j)) (R j))
+lent_combined value W pos below o ws left d op R a n k en ed room len y new right =
+    let fits : a + k ≤ length (map value ws) = rw (length-map ws value) room in
+    let many = mid_length ws a n k en room in
+    lent_map value a n ws left
+    ∙ words_combined W pos o (map value ws) d op R (map value left) a n k en ed fits (row_below value W below ws) (lent_length value a n ws left len) y
+    (λ i l. new i (omega arith) ∙ ap (λ (x : List ℕ). wordwise W op (get_or x i 0) (y i)) (mid_map value a n ws)) right
 
 -- the bits of a right word, and of none
 pub right_word : (W : ℕ) (o : Order) (vs : List ℕ) (s i : ℕ) {y : ℕ} → y ≡ word_on W o vs s i → (p : ℕ) → p < W → bit_n y p ≡ row W o vs (s + (i * W + position W o p))

@@ -9,7 +9,7 @@ use native.Mathlib.Omega.{arith}
 use lib.ListN.{length, get_or}
 use lib.Dec.{eqb}
 use borrow.Author.Tests.{eqb-true}
-use Rattle.rules.specs.Types.{Order, Span, Verdict, Fine, Refused, Lsb0, Msb0}
+use Rattle.rules.specs.Types.{Order, Span, Verdict, Ok, Err, Lsb0, Msb0}
 use Rattle.rules.specs.Bits.{bit_n, bit_at}
 use Rattle.rules.specs.Positions.{mirror, row, start, span_bit, within, over, spliced, covers, position}
 use Rattle.rules.specs.Fields.{load_of, read_as, store_of}
@@ -198,26 +198,26 @@ module _ (W : ℕ) (pos : 0 < W) where
   -- ---- the same for every call, refused ones too: k is the verdict
 
   frame_gate : (k : Verdict) (c : Call) (ws : List ℕ) (q : ℕ) → unless k (writes! W c q) false ≡ false → bit_at W (unless k (after! W c ws) ws) q ≡ bit_at W ws q
-  frame_gate Fine c ws q e = frame! c ws q e
-  frame_gate (Refused r) c ws q e = refl
+  frame_gate (Ok _) c ws q e = frame! c ws q e
+  frame_gate (Err r) c ws q e = refl
 
   length_gate : (k : Verdict) (c : Call) (ws : List ℕ) → length (unless k (after! W c ws) ws) ≡ length ws
-  length_gate Fine c ws = length! c ws
-  length_gate (Refused r) c ws = refl
+  length_gate (Ok _) c ws = length! c ws
+  length_gate (Err r) c ws = refl
 
   words_gate : (k : Verdict) (c : Call) (ws : List ℕ) → Words W ws → Words W (unless k (after! W c ws) ws)
-  words_gate Fine c ws h = words! c ws h
-  words_gate (Refused r) c ws h = h
+  words_gate (Ok _) c ws h = words! c ws h
+  words_gate (Err r) c ws h = h
 
   answer_gate : (k : Verdict) (c : Call) (ws vs : List ℕ) → ((q : ℕ) → unless k (reads! W c q) false ≡ true → bit_at W ws q ≡ bit_at W vs q)
       → said k (answer! W c ws) ≡ said k (answer! W c vs)
-  answer_gate Fine c ws vs a = local_answer! c ws vs a
-  answer_gate (Refused r) c ws vs a = refl
+  answer_gate (Ok _) c ws vs a = local_answer! c ws vs a
+  answer_gate (Err r) c ws vs a = refl
 
   bit_gate : (k : Verdict) (c : Call) (ws vs : List ℕ) → length ws ≡ length vs → ((q : ℕ) → unless k (reads! W c q) false ≡ true → bit_at W ws q ≡ bit_at W vs q)
       → (q : ℕ) → unless k (writes! W c q) false ≡ true → bit_at W (unless k (after! W c ws) ws) q ≡ bit_at W (unless k (after! W c vs) vs) q
-  bit_gate Fine c ws vs l a q e = local_bit! c ws vs l a q e
-  bit_gate (Refused r) c ws vs l a q e = absurd (true≢false (sym e))
+  bit_gate (Ok _) c ws vs l a q e = local_bit! c ws vs l a q e
+  bit_gate (Err r) c ws vs l a q e = absurd (true≢false (sym e))
 
   -- the one-buffer calls on a buffer of n words
   pub rules : (n : ℕ) → Rules (λ ws. length ws ≡ n) (bit_at W) (answer W) (after W) (reads W n) (writes W n)
@@ -250,5 +250,5 @@ module _ (W : ℕ) (pos : 0 < W) where
       sym (bit_at_at W (after W c ws) k p h) ∙ (rules (length ws)).frame c ws refl (k * W + p) (quiet (verdict (cases W (length ws) c))) ∙ bit_at_at W ws k p h
     where
       quiet : (t : Verdict) → unless t (writes! W c (k * W + p)) false ≡ false
-      quiet Fine = out
-      quiet (Refused r) = refl
+      quiet (Ok _) = out
+      quiet (Err r) = refl

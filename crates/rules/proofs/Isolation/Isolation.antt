@@ -4,7 +4,7 @@ use mathlib.Core.Path.{◌≡◌, refl, sym, ◌∙◌, ap, ap₂, subst}
 use mathlib.Core.Bool.{Bool, true, false, ◌||◌, true≢false, or-true}
 use mathlib.Core.List.{List, [], ◌∷◌, ◌++◌}
 use lib.ListN.{length}
-use Rattle.rules.specs.Types.{Verdict, Fine, Refused}
+use Rattle.rules.specs.Types.{Verdict, Ok, Err}
 use Rattle.rules.specs.Bits.{bit_at}
 use Rattle.rules.specs.Refusals.{verdict}
 use Rattle.rules.specs.Calls.{Call, Answer, cases, answer, after, reads!, writes!, reads, writes, unless}
@@ -14,9 +14,9 @@ use Rattle.rules.proofs.Rows.Row.{Words, buffers_ext}
 use Rattle.rules.proofs.Isolation.Footprints.{rules, words_after, length_after}
 
 module _ (W : ℕ) (wide : 0 < W) where
-  gate : (k : Verdict) {b : Bool} → unless k b false ≡ true → (k ≡ Fine) × (b ≡ true)
-  gate Fine e = (refl, e)
-  gate (Refused r) e = absurd (true≢false (sym e))
+  gate : (k : Verdict) {b : Bool} → unless k b false ≡ true → (k ≡ Ok tt) × (b ≡ true)
+  gate (Ok _) e = (refl, e)
+  gate (Err r) e = absurd (true≢false (sym e))
 
   -- what is asked reads and writes what its call does, or nothing
   abbrev reads_of : ℕ → Asked → ℕ → Bool

@@ -6,7 +6,7 @@ use mathlib.Core.List.{List, [], ◌∷◌}
 use native.Mathlib.Omega.{arith}
 use lib.Dec.{lit<, lit≤}
 use lib.IntN.{pos}
-use Rattle.rules.specs.Types.{Lsb0, Msb0, Span, Refusal, IndexTooLarge, DoesNotFit, Fine, Refused, Le, Be, Unsigned}
+use Rattle.rules.specs.Types.{Lsb0, Msb0, Span, Refusal, IndexTooLarge, DoesNotFit, Verdict, Ok, Err, Le, Be, Unsigned}
 use Rattle.rules.specs.Bits.{bit_n, of_bits, tabulate, bit_at, from_bits}
 use Rattle.rules.specs.Positions.{position, mirror, row, from_row, start, span_bit, in_bounds, within, over, spliced, covers}
 use Rattle.rules.specs.Fields.{exponent, weigh, load_of, read_as, bits_of, store_of, is_size, is_integer, fits}
@@ -64,7 +64,7 @@ never : (c : Bool) → false ≡ true → c ≡ true
 never c e = absurd (false≢true e)
 
 -- a refused call need not keep to anything
-gone : (r : Refusal) {A : Type 0} → Refused r ≡ Fine → A
+gone : (r : Refusal) {A : Type 0} → ◌≡◌ {A = Verdict} (Err r) (Ok tt) → A
 gone r e = let z : ◌≡◌ {A = ℕ} 0 1 = cc in absurd (omega arith)
 
 pub mixture_kept : All (Within 8 1 Shares) mixture

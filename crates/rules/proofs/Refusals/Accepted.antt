@@ -1,4 +1,4 @@
--- What an accepted request has: the facts that `Fine` of each table gives to code and proof. Assumes nothing.
+-- What an accepted request has: the facts that `Ok` of each table gives to code and proof. Assumes nothing.
 use Prim.Native.Nat.{ℕ, ◌+◌, ◌/◌, ◌≤◌, ◌<◌}
 use mathlib.Core.Path.{◌≡◌, refl, sym}
 use mathlib.Core.Bool.{Bool, true, false, not, ◌||◌, false≢true}
@@ -8,7 +8,7 @@ use native.Mathlib.Omega.{arith}
 use lib.Dec.{leb, ltb, eqb}
 use lib.IntN.{ℤ}
 use borrow.Author.Tests.{ltb-false, leb-false, eqb-true, eqb-false, not-false}
-use Rattle.rules.specs.Types.{Order, Lsb0, Msb0, Span, Sign, NotBelow, NoSuchK, FieldLength, NotAnInteger, DoesNotFit, OrdersDiffer, LengthsDiffer, Fine}
+use Rattle.rules.specs.Types.{Order, Lsb0, Msb0, Span, Sign, NotBelow, NoSuchK, FieldLength, NotAnInteger, DoesNotFit, OrdersDiffer, LengthsDiffer, Ok}
 use Rattle.rules.specs.Fields.{is_size, is_integer, fits}
 use Rattle.rules.specs.Refusals.{verdict, ◌when◌, span_cases, split_cases, bit_cases, field_cases, value_cases, fitting_cases, load_cases, store_cases, store_strict_cases, same_order, pair_cases, copy_cases, within_cases}
 use Rattle.rules.proofs.Refusals.Tables.{Inside, fine_inside, fine_parts, fine_row}
@@ -22,7 +22,7 @@ pub record Place (W n : ℕ) (s : Span) (p : ℕ) : Type 0 where
   pub lies : Inside W n s
   pub upto : p ≤ s.len
 
-pub fine_place : (W n : ℕ) (s : Span) (p : ℕ) → verdict (split_cases W n s p) ≡ Fine → Place W n s p
+pub fine_place : (W n : ℕ) (s : Span) (p : ℕ) → verdict (split_cases W n s p) ≡ Ok tt → Place W n s p
 unfolding split_cases
 fine_place W n s p e =
     let f = fine_parts (span_cases W n s) (NotBelow when ltb s.len p ∷ []) e in
@@ -35,7 +35,7 @@ pub record Bit (W n : ℕ) (s : Span) (i : ℕ) : Type 0 where
   pub wide : 0 < W
   pub word_in : s.word + (s.head.0 + i) / W < n
 
-pub fine_bit : (W n : ℕ) (s : Span) (i : ℕ) → verdict (bit_cases W n s i) ≡ Fine → Bit W n s i
+pub fine_bit : (W n : ℕ) (s : Span) (i : ℕ) → verdict (bit_cases W n s i) ≡ Ok tt → Bit W n s i
 unfolding bit_cases
 fine_bit W n s i e =
     let f = fine_parts (span_cases W n s) (NotBelow when leb s.len i ∷ []) e in
@@ -67,7 +67,7 @@ one_of K e = go (eqb K 8) (eqb K 16) (eqb K 32) (eqb K 64) refl refl refl refl e
     go false false false true p q r t e = omega (arith, eqb-true K 64 t)
     go false false false false p q r t e = absurd (false≢true e)
 
-pub fine_sized : (K len : ℕ) → verdict (field_cases K len) ≡ Fine → Sized K len
+pub fine_sized : (K len : ℕ) → verdict (field_cases K len) ≡ Ok tt → Sized K len
 unfolding field_cases
 fine_sized K len e =
     let k = not (is_size K) in
@@ -90,7 +90,7 @@ pub record Valued (K len : ℕ) (g : Sign) (v : ℤ) : Type 0 where
   pub sized : Sized K len
   pub integer : is_integer K g v ≡ true
 
-pub fine_valued : (K len : ℕ) (g : Sign) (v : ℤ) → verdict (value_cases K len g v) ≡ Fine → Valued K len g v
+pub fine_valued : (K len : ℕ) (g : Sign) (v : ℤ) → verdict (value_cases K len g v) ≡ Ok tt → Valued K len g v
 unfolding value_cases
 fine_valued K len g v e =
     let f = fine_parts (field_cases K len) (NotAnInteger when not (is_integer K g v) ∷ []) e in
@@ -100,7 +100,7 @@ pub record Fitted (K len : ℕ) (g : Sign) (v : ℤ) : Type 0 where
   pub valued : Valued K len g v
   pub small : fits len g v ≡ true
 
-pub fine_fitted : (K len : ℕ) (g : Sign) (v : ℤ) → verdict (fitting_cases K len g v) ≡ Fine → Fitted K len g v
+pub fine_fitted : (K len : ℕ) (g : Sign) (v : ℤ) → verdict (fitting_cases K len g v) ≡ Ok tt → Fitted K len g v
 unfolding fitting_cases
 fine_fitted K len g v e =
     let f = fine_parts (value_cases K len g v) (DoesNotFit when not (fits len g v) ∷ []) e in
@@ -111,7 +111,7 @@ pub record Load (W n : ℕ) (s : Span) (K : ℕ) : Type 0 where
   pub lies : Inside W n s
   pub sized : Sized K s.len
 
-pub fine_load : (W n : ℕ) (s : Span) (K : ℕ) → verdict (load_cases W n s K) ≡ Fine → Load W n s K
+pub fine_load : (W n : ℕ) (s : Span) (K : ℕ) → verdict (load_cases W n s K) ≡ Ok tt → Load W n s K
 unfolding load_cases
 fine_load W n s K e =
     let f = fine_parts (span_cases W n s) (field_cases K s.len) e in
@@ -121,7 +121,7 @@ pub record Store (W n : ℕ) (s : Span) (K : ℕ) (g : Sign) (v : ℤ) : Type 0 
   pub lies : Inside W n s
   pub valued : Valued K s.len g v
 
-pub fine_store : (W n : ℕ) (s : Span) (K : ℕ) (g : Sign) (v : ℤ) → verdict (store_cases W n s K g v) ≡ Fine → Store W n s K g v
+pub fine_store : (W n : ℕ) (s : Span) (K : ℕ) (g : Sign) (v : ℤ) → verdict (store_cases W n s K g v) ≡ Ok tt → Store W n s K g v
 unfolding store_cases
 fine_store W n s K g v e =
     let f = fine_parts (span_cases W n s) (value_cases K s.len g v) e in
@@ -131,7 +131,7 @@ pub record Strict (W n : ℕ) (s : Span) (K : ℕ) (g : Sign) (v : ℤ) : Type 0
   pub lies : Inside W n s
   pub fitted : Fitted K s.len g v
 
-pub fine_strict : (W n : ℕ) (s : Span) (K : ℕ) (g : Sign) (v : ℤ) → verdict (store_strict_cases W n s K g v) ≡ Fine → Strict W n s K g v
+pub fine_strict : (W n : ℕ) (s : Span) (K : ℕ) (g : Sign) (v : ℤ) → verdict (store_strict_cases W n s K g v) ≡ Ok tt → Strict W n s K g v
 unfolding store_strict_cases
 fine_strict W n s K g v e =
     let f = fine_parts (span_cases W n s) (fitting_cases K s.len g v) e in
@@ -149,7 +149,7 @@ same_order_lem Lsb0 Msb0 e = absurd (false≢true e)
 same_order_lem Msb0 Lsb0 e = absurd (false≢true e)
 same_order_lem Msb0 Msb0 e = refl
 
-pub fine_pair : (W n : ℕ) (s : Span) (m : ℕ) (t : Span) → verdict (pair_cases W n s m t) ≡ Fine → Pair W n s m t
+pub fine_pair : (W n : ℕ) (s : Span) (m : ℕ) (t : Span) → verdict (pair_cases W n s m t) ≡ Ok tt → Pair W n s m t
 unfolding pair_cases
 fine_pair W n s m t e =
     let o = not (same_order s.order t.order) in
@@ -165,7 +165,7 @@ pub record Copy (W n : ℕ) (s : Span) (m : ℕ) (t : Span) : Type 0 where
   pub pair : Pair W n s m t
   pub one_length : s.len ≡ t.len
 
-pub fine_copy : (W n : ℕ) (s : Span) (m : ℕ) (t : Span) → verdict (copy_cases W n s m t) ≡ Fine → Copy W n s m t
+pub fine_copy : (W n : ℕ) (s : Span) (m : ℕ) (t : Span) → verdict (copy_cases W n s m t) ≡ Ok tt → Copy W n s m t
 unfolding copy_cases
 fine_copy W n s m t e =
     let l = not (eqb s.len t.len) in
@@ -181,7 +181,7 @@ pub record Move (W n : ℕ) (s : Span) (from count to : ℕ) : Type 0 where
   pub source : from + count ≤ s.len
   pub target : to + count ≤ s.len
 
-pub fine_move : (W n : ℕ) (s : Span) (from count to : ℕ) → verdict (within_cases W n s from count to) ≡ Fine → Move W n s from count to
+pub fine_move : (W n : ℕ) (s : Span) (from count to : ℕ) → verdict (within_cases W n s from count to) ≡ Ok tt → Move W n s from count to
 unfolding within_cases
 fine_move W n s from count to e =
     let b = ltb s.len (from + count) || ltb s.len (to + count) in

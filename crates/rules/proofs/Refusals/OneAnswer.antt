@@ -1,15 +1,17 @@
--- No second answer, and no second memory, keeps a promise: each case of an answer's enum says something else. Assumes nothing.
+-- No second answer, and no second memory, keeps a promise: different answers say different things. Assumes nothing.
 use mathlib.Core.Path.{◌≡◌, refl, sym, ap, ap₂, ◌∙◌}
 use mathlib.Core.Bool.{Bool, true, false, cond}
 use mathlib.Core.List.{List}
 use Prim.Native.Nat.{ℕ}
 use lib.Dec.{eqb}
 use lib.IntN.{ℤ, pos, negsuc}
-use Rattle.rules.specs.Types.{Refusal, TooManyWords, IndexTooLarge, OutOfBounds, NoSuchK, FieldLength, OrdersDiffer, LengthsDiffer, NotAnInteger, DoesNotFit, NotBelow, Verdict, Fine, Refused, Span, Number, Up, Down, PositionAnswer, Position-as-Is, Position-as-Refused, SelectorAnswer, Selector-as-Is, Selector-as-Refused, MaskAnswer, Mask-as-Is, Mask-as-Refused, SplitAnswer, Parts, Split-as-Refused, SpanAnswer, Span-as-Is, Span-as-Refused, BitAnswer, Bit-as-Is, Bit-as-Refused, NumberAnswer, Number-as-Is, Number-as-Refused, LowBitsAnswer, LowBits-as-Is, LowBits-as-Refused, MachineAnswer, Machine-as-Is, Machine-as-Refused, WriteAnswer, Done, Write-as-Refused, EqualAnswer, Yes, No, Equal-as-Refused, SearchAnswer, At, Absent, Search-as-Refused}
+use Rattle.std.proofs.Common.{Option, Some, None, IsErrAnd}
+use Rattle.std.proofs.lemmas.Result.{err_from_is_err_and}
+use Rattle.rules.specs.Types.{Refusal, TooManyWords, IndexTooLarge, OutOfBounds, NoSuchK, FieldLength, OrdersDiffer, LengthsDiffer, NotAnInteger, DoesNotFit, NotBelow, Result, Ok, Err, Verdict, Position, Selector, Mask, Span, Halves, Number, Up, Down}
 use Rattle.rules.specs.Fields.{whole}
 use Rattle.rules.specs.Refusals.{Case, number, verdict}
-use Rattle.rules.specs.Calls.{Answer, refused, said, Call, digit}
-use Rattle.rules.specs.Answers.{verdict_says, Judges, position_says, selector_says, mask_says, split_says, span_says, bit_says, number_says, low_bits_says, machine_says, write_says, equal_says, search_says, Gives}
+use Rattle.rules.specs.Calls.{Answer, refused, says_yes, says_no, said, Call, digit}
+use Rattle.rules.specs.Answers.{answer_says, found_says, verdict_says, Judges, position_says, selector_says, mask_says, split_says, span_says, bit_says, number_says, low_bits_says, machine_says, write_says, equal_says, search_says, Gives, Swaps}
 
 -- a function with a way back takes no two things to one
 pub onto : {A B : Type 0} (f : A → B) (g : B → A) → ((x : A) → g (f x) ≡ x) → (x y : A) → f x ≡ f y → x ≡ y
@@ -54,11 +56,16 @@ digit_one = onto digit (λ n. eqb n 1) back
 pub whole_one : (v w : Number) → whole v ≡ whole w → v ≡ w
 whole_one = onto whole of_whole wholes
 
+-- where f says different things of different values, and of none that it is refused, different answers say different things
+pub one_answer : {A : Type 0} (f : A → Answer) → ((a b : A) → f a ≡ f b → a ≡ b) → ((a : A) (n : ℕ) → f a ≡ refused n → ⊥)
+    → (x y : Result A Refusal) → answer_says f x ≡ answer_says f y → x ≡ y
+one_answer f one never (Ok a) (Ok b) e = ap Ok (one a b e)
+one_answer f one never (Ok a) (Err s) e = absurd (never a (number s) e)
+one_answer f one never (Err r) (Ok b) e = absurd (never b (number r) (sym e))
+one_answer f one never (Err r) (Err s) e = ap Err (one_number r s (cc))
+
 pub one_verdict : (x y : Verdict) → verdict_says x ≡ verdict_says y → x ≡ y
-one_verdict Fine Fine e = refl
-one_verdict Fine (Refused b) e = cc
-one_verdict (Refused a) Fine e = cc
-one_verdict (Refused a) (Refused b) e = ap Refused (one_number a b (cc))
+one_verdict = one_answer _ (λ a b e. refl) (λ a n e. cc)
 
 -- a check's promise, and its answer as the verdict itself
 pub judged : {t : List Case} {r : Verdict} → Judges t r → r ≡ verdict t
@@ -67,99 +74,103 @@ judged {t} {r} j = one_verdict r (verdict t) j.says
 pub judges : {t : List Case} {r : Verdict} → r ≡ verdict t → Judges t r
 judges e = record { says = ap verdict_says e }
 
+-- what an answer of a check tells of its table
+pub accepted : {t : List Case} {r : Verdict} → Judges t r → r ≡ Ok tt → verdict t ≡ Ok tt
+accepted j e = sym (judged j) ∙ e
+
+pub declined : {t : List Case} {r : Verdict} {why : Refusal} → Judges t r → r ≡ Err why → verdict t ≡ Err why
+declined j e = sym (judged j) ∙ e
+
+-- what a `?` passes up
+pub passed_up : {A : Type 0} {r : Result A Refusal} {why : Refusal} → IsErrAnd r (λ e. e ≡ why) → r ≡ Err why
+passed_up {r = r} p = let q = err_from_is_err_and r p in rw (q.1, q.2)
+
+pub judges_passed : {t : List Case} {r : Verdict} {why : Refusal} → IsErrAnd r (λ e. e ≡ why) → verdict t ≡ Err why → Judges t r
+judges_passed p e = judges (passed_up p ∙ sym e)
+
 -- no second answer keeps it
 pub only_verdict : {t : List Case} {r r' : Verdict} → Judges t r → Judges t r' → r ≡ r'
 only_verdict j k = judged j ∙ sym (judged k)
 
-pub one_position : (x y : PositionAnswer) → position_says x ≡ position_says y → x ≡ y
-one_position (Position-as-Is a) (Position-as-Is b) e = ap (λ (n : ℕ). Position-as-Is (record { 0 = n })) (cc)
-one_position (Position-as-Is a) (Position-as-Refused b) e = cc
-one_position (Position-as-Refused a) (Position-as-Is b) e = cc
-one_position (Position-as-Refused a) (Position-as-Refused b) e = ap Position-as-Refused (one_number a b (cc))
+pub one_position : (x y : Result Position Refusal) → position_says x ≡ position_says y → x ≡ y
+one_position = one_answer _ (λ a b e. ap (λ (n : ℕ). record { 0 = n }) (cc)) (λ a n e. cc)
 
-pub one_selector : (x y : SelectorAnswer) → selector_says x ≡ selector_says y → x ≡ y
-one_selector (Selector-as-Is a) (Selector-as-Is b) e = ap (λ (n : ℕ). Selector-as-Is (record { 0 = n })) (cc)
-one_selector (Selector-as-Is a) (Selector-as-Refused b) e = cc
-one_selector (Selector-as-Refused a) (Selector-as-Is b) e = cc
-one_selector (Selector-as-Refused a) (Selector-as-Refused b) e = ap Selector-as-Refused (one_number a b (cc))
+pub one_selector : (x y : Result Selector Refusal) → selector_says x ≡ selector_says y → x ≡ y
+one_selector = one_answer _ (λ a b e. ap (λ (n : ℕ). record { 0 = n }) (cc)) (λ a n e. cc)
 
-pub one_mask : (x y : MaskAnswer) → mask_says x ≡ mask_says y → x ≡ y
-one_mask (Mask-as-Is a) (Mask-as-Is b) e = ap (λ (n : ℕ). Mask-as-Is (record { 0 = n })) (cc)
-one_mask (Mask-as-Is a) (Mask-as-Refused b) e = cc
-one_mask (Mask-as-Refused a) (Mask-as-Is b) e = cc
-one_mask (Mask-as-Refused a) (Mask-as-Refused b) e = ap Mask-as-Refused (one_number a b (cc))
+pub one_mask : (x y : Result Mask Refusal) → mask_says x ≡ mask_says y → x ≡ y
+one_mask = one_answer _ (λ a b e. ap (λ (n : ℕ). record { 0 = n }) (cc)) (λ a n e. cc)
 
-pub one_split : (x y : SplitAnswer) → split_says x ≡ split_says y → x ≡ y
-one_split (Parts a) (Parts b) e = let l : a.left ≡ b.left = cc in let r : a.rest ≡ b.rest = cc in ap₂ (λ (s t : Span). Parts (record { left = s; rest = t })) l r
-one_split (Parts a) (Split-as-Refused b) e = cc
-one_split (Split-as-Refused a) (Parts b) e = cc
-one_split (Split-as-Refused a) (Split-as-Refused b) e = ap Split-as-Refused (one_number a b (cc))
+pub one_split : (x y : Result Halves Refusal) → split_says x ≡ split_says y → x ≡ y
+one_split = one_answer _ (λ a b e. let l : a.left ≡ b.left = cc in let r : a.rest ≡ b.rest = cc in ap₂ (λ (s t : Span). record { left = s; rest = t }) l r) (λ a n e. cc)
 
-pub one_span : (x y : SpanAnswer) → span_says x ≡ span_says y → x ≡ y
-one_span (Span-as-Is a) (Span-as-Is b) e = cc
-one_span (Span-as-Is a) (Span-as-Refused b) e = cc
-one_span (Span-as-Refused a) (Span-as-Is b) e = cc
-one_span (Span-as-Refused a) (Span-as-Refused b) e = ap Span-as-Refused (one_number a b (cc))
+pub one_span : (x y : Result Span Refusal) → span_says x ≡ span_says y → x ≡ y
+one_span = one_answer _ (λ a b e. cc) (λ a n e. cc)
 
-pub one_bit : (x y : BitAnswer) → bit_says x ≡ bit_says y → x ≡ y
-one_bit (Bit-as-Is a) (Bit-as-Is b) e = ap Bit-as-Is (digit_one a b (cc))
-one_bit (Bit-as-Is a) (Bit-as-Refused b) e = cc
-one_bit (Bit-as-Refused a) (Bit-as-Is b) e = cc
-one_bit (Bit-as-Refused a) (Bit-as-Refused b) e = ap Bit-as-Refused (one_number a b (cc))
+pub one_bit : (x y : Result Bool Refusal) → bit_says x ≡ bit_says y → x ≡ y
+one_bit = one_answer _ (λ a b e. digit_one a b (cc)) (λ a n e. cc)
 
-pub one_number_answer : (x y : NumberAnswer) → number_says x ≡ number_says y → x ≡ y
-one_number_answer (Number-as-Is a) (Number-as-Is b) e = ap Number-as-Is (whole_one a b (cc))
-one_number_answer (Number-as-Is a) (Number-as-Refused b) e = cc
-one_number_answer (Number-as-Refused a) (Number-as-Is b) e = cc
-one_number_answer (Number-as-Refused a) (Number-as-Refused b) e = ap Number-as-Refused (one_number a b (cc))
+pub one_number_answer : (x y : Result Number Refusal) → number_says x ≡ number_says y → x ≡ y
+one_number_answer = one_answer _ (λ a b e. whole_one a b (cc)) (λ a n e. cc)
 
-pub one_low_bits : (x y : LowBitsAnswer) → low_bits_says x ≡ low_bits_says y → x ≡ y
-one_low_bits (LowBits-as-Is a) (LowBits-as-Is b) e = cc
-one_low_bits (LowBits-as-Is a) (LowBits-as-Refused b) e = cc
-one_low_bits (LowBits-as-Refused a) (LowBits-as-Is b) e = cc
-one_low_bits (LowBits-as-Refused a) (LowBits-as-Refused b) e = ap LowBits-as-Refused (one_number a b (cc))
+pub one_low_bits : (x y : Result ℕ Refusal) → low_bits_says x ≡ low_bits_says y → x ≡ y
+one_low_bits = one_answer _ (λ a b e. cc) (λ a n e. cc)
 
-pub one_machine : (x y : MachineAnswer) → machine_says x ≡ machine_says y → x ≡ y
-one_machine (Machine-as-Is a) (Machine-as-Is b) e = cc
-one_machine (Machine-as-Is a) (Machine-as-Refused b) e = cc
-one_machine (Machine-as-Refused a) (Machine-as-Is b) e = cc
-one_machine (Machine-as-Refused a) (Machine-as-Refused b) e = ap Machine-as-Refused (one_number a b (cc))
+pub one_machine : (x y : Result ℤ Refusal) → machine_says x ≡ machine_says y → x ≡ y
+one_machine = one_answer _ (λ a b e. cc) (λ a n e. cc)
 
-pub one_write : (x y : WriteAnswer) → write_says x ≡ write_says y → x ≡ y
-one_write Done Done e = refl
-one_write Done (Write-as-Refused b) e = cc
-one_write (Write-as-Refused a) Done e = cc
-one_write (Write-as-Refused a) (Write-as-Refused b) e = ap Write-as-Refused (one_number a b (cc))
+pub one_write : (x y : Result (Unit {0}) Refusal) → write_says x ≡ write_says y → x ≡ y
+one_write = one_verdict
 
-pub one_equal : (x y : EqualAnswer) → equal_says x ≡ equal_says y → x ≡ y
-one_equal Yes Yes e = refl
-one_equal Yes No e = cc
-one_equal Yes (Equal-as-Refused b) e = cc
-one_equal No Yes e = cc
-one_equal No No e = refl
-one_equal No (Equal-as-Refused b) e = cc
-one_equal (Equal-as-Refused a) Yes e = cc
-one_equal (Equal-as-Refused a) No e = cc
-one_equal (Equal-as-Refused a) (Equal-as-Refused b) e = ap Equal-as-Refused (one_number a b (cc))
+pub one_equal : (x y : Result Bool Refusal) → equal_says x ≡ equal_says y → x ≡ y
+one_equal = one_answer _ one never
+  where
+    one : (a b : Bool) → cond a says_yes says_no ≡ cond b says_yes says_no → a ≡ b
+    one true true e = refl
+    one true false e = cc
+    one false true e = cc
+    one false false e = refl
 
-pub one_search : (x y : SearchAnswer) → search_says x ≡ search_says y → x ≡ y
-one_search (At a) (At b) e = cc
-one_search (At a) Absent e = cc
-one_search (At a) (Search-as-Refused b) e = cc
-one_search Absent (At b) e = cc
-one_search Absent Absent e = refl
-one_search Absent (Search-as-Refused b) e = cc
-one_search (Search-as-Refused a) (At b) e = cc
-one_search (Search-as-Refused a) Absent e = cc
-one_search (Search-as-Refused a) (Search-as-Refused b) e = ap Search-as-Refused (one_number a b (cc))
+    never : (a : Bool) (n : ℕ) → cond a says_yes says_no ≡ refused n → ⊥
+    never true n e = cc
+    never false n e = cc
+
+pub one_search : (x y : Result (Option ℕ) Refusal) → search_says x ≡ search_says y → x ≡ y
+one_search = one_answer found_says one never
+  where
+    one : (a b : Option ℕ) → found_says a ≡ found_says b → a ≡ b
+    one (Some i) (Some j) e = cc
+    one (Some i) None e = cc
+    one None (Some j) e = cc
+    one None None e = refl
+
+    never : (a : Option ℕ) (n : ℕ) → found_says a ≡ refused n → ⊥
+    never (Some i) n e = cc
+    never None n e = cc
+
+-- what is said of an answer that a `?` passes up, and the promise of a write and of a swap that pass one up
+pub says_passed : {A : Type 0} (f : A → Answer) (r : Result A Refusal) (why : Refusal) → IsErrAnd r (λ e. e ≡ why) → answer_says f r ≡ refused (number why)
+says_passed f r why p = rw (passed_up p)
+
+pub gives_passed : {W : ℕ} {c : Call} {ws m : List ℕ} (r : Result (Unit {0}) Refusal) (why : Refusal) → IsErrAnd r (λ e. e ≡ why)
+    → Gives W c ws (refused (number why)) m → Gives W c ws (write_says r) m
+gives_passed r why p g = record { answers = says_passed _ r why p ∙ g.answers; holds = g.holds }
+
+pub swaps_passed : {W : ℕ} {ws vs m n : List ℕ} {s t : Span} (r : Result (Unit {0}) Refusal) (why : Refusal) → IsErrAnd r (λ e. e ≡ why)
+    → Swaps W ws s vs t (refused (number why)) m n → Swaps W ws s vs t (write_says r) m n
+swaps_passed r why p g = record { answers = says_passed _ r why p ∙ g.answers; holds_left = g.holds_left; holds_right = g.holds_right }
 
 -- a promise has one answer and one memory
 pub only : {W : ℕ} {c : Call} {ws : List ℕ} {r r' : Answer} {m m' : List ℕ} → Gives W c ws r m → Gives W c ws r' m' → (r ≡ r') × (m ≡ m')
 only g h = (g.answers ∙ sym h.answers, g.holds ∙ sym h.holds)
 
--- an answer behind a verdict, and one behind `Fine`
-pub said_refused : (a : Answer) {v : Verdict} {r : Refusal} → v ≡ Refused r → refused (number r) ≡ said v a
+-- an answer behind a verdict, and one behind `Ok`
+pub said_refused : (a : Answer) {v : Verdict} {r : Refusal} → v ≡ Err r → refused (number r) ≡ said v a
 said_refused a e = rw e
 
-pub said_fine : {a b : Answer} {v : Verdict} → v ≡ Fine → a ≡ b → a ≡ said v b
+pub said_passed : {A : Type 0} (f : A → Answer) (r : Result A Refusal) (a : Answer) {v : Verdict} {why : Refusal} → IsErrAnd r (λ e. e ≡ why) → v ≡ Err why
+    → answer_says f r ≡ said v a
+said_passed f r a p e = says_passed f r _ p ∙ said_refused a e
+
+pub said_fine : {a b : Answer} {v : Verdict} → v ≡ Ok tt → a ≡ b → a ≡ said v b
 said_fine e d = rw e d

@@ -5,7 +5,7 @@ use Prim.Native.Nat.{ℕ, suc, ◌+◌, ◌-◌, ◌*◌, ◌≤◌, ◌<◌}
 use native.Mathlib.Omega.{arith}
 use lib.ListN.{length}
 use borrow.Author.Tests.{lt-ltb, le-ltb}
-use Rattle.rules.specs.Types.{Span, Refusal, Fine, Refused}
+use Rattle.rules.specs.Types.{Span, Refusal, Ok, Err}
 use Rattle.rules.specs.Positions.{row, start, span_bit}
 use Rattle.rules.specs.Rows.{first_with, last_with}
 use Rattle.rules.specs.Refusals.{number, verdict, span_cases}
@@ -14,15 +14,15 @@ use Rattle.rules.specs.Calls.{Answer, refused, found_at, absent, find_first, fin
 module _ (W v : ℕ) (s : Span) (ws : List ℕ) where
   -- ---- from a table's verdict and a row's search
 
-  pub first_refused : {r : Refusal} → verdict (span_cases W (length ws) s) ≡ Refused r → refused (number r) ≡ answer W (find_first v s) ws
+  pub first_refused : {r : Refusal} → verdict (span_cases W (length ws) s) ≡ Err r → refused (number r) ≡ answer W (find_first v s) ws
   unfolding answer cases
   first_refused e = rw e
 
-  pub last_refused : {r : Refusal} → verdict (span_cases W (length ws) s) ≡ Refused r → refused (number r) ≡ answer W (find_last v s) ws
+  pub last_refused : {r : Refusal} → verdict (span_cases W (length ws) s) ≡ Err r → refused (number r) ≡ answer W (find_last v s) ws
   unfolding answer cases
   last_refused e = rw e
 
-  module _ (fine : verdict (span_cases W (length ws) s) ≡ Fine) where
+  module _ (fine : verdict (span_cases W (length ws) s) ≡ Ok tt) where
     pub first_said : answer W (find_first v s) ws ≡ first_found s.len (first_with s.len (span_bit W ws s) v)
     unfolding answer answer! cases
     first_said = rw fine

@@ -11,7 +11,7 @@ use lib.IntN.{ℤ, pos, negsuc}
 use lib.Pow.{pow_mono}
 use lib.Signed.{mag}
 use borrow.Author.Tests.{lt-ltb}
-use Rattle.rules.specs.Types.{Lsb0, Msb0, Span, Significance, Le, Be, Sign, Unsigned, Signed, NotAnInteger, Verdict, Fine, Refused}
+use Rattle.rules.specs.Types.{Lsb0, Msb0, Span, Significance, Le, Be, Sign, Unsigned, Signed, NotAnInteger, Verdict, Ok, Err}
 use Rattle.rules.specs.Bits.{bit_n}
 use Rattle.rules.specs.Positions.{start, span_bit}
 use Rattle.rules.specs.Fields.{exponent, load_of, read_as, signed_of, bits_of, store_of, is_integer}
@@ -27,14 +27,14 @@ use Rattle.rules.proofs.Isolation.Footprints.{beside, length_after}
 
 -- ---- an answer that is no refusal tells that the request was accepted
 
-number_fine : (v : Verdict) (a : Answer) (z : ℤ) → said v a ≡ a_number z → v ≡ Fine
-number_fine Fine a z e = refl
-number_fine (Refused r) a z e = let z : ◌≡◌ {A = ℕ} 0 1 = cc in absurd (omega arith)
+number_fine : (v : Verdict) (a : Answer) (z : ℤ) → said v a ≡ a_number z → v ≡ Ok tt
+number_fine (Ok _) a z e = refl
+number_fine (Err r) a z e = let z : ◌≡◌ {A = ℕ} 0 1 = cc in absurd (omega arith)
 
 one_integer : (y z : ℤ) → a_number y ≡ a_number z → y ≡ z
 one_integer y z e = cc
 
-fine_of_number : (W : ℕ) (c : Call) (ws : List ℕ) (z : ℤ) → answer W c ws ≡ a_number z → verdict (cases W (length ws) c) ≡ Fine
+fine_of_number : (W : ℕ) (c : Call) (ws : List ℕ) (z : ℤ) → answer W c ws ≡ a_number z → verdict (cases W (length ws) c) ≡ Ok tt
 unfolding answer
 fine_of_number W c ws z e = number_fine (verdict (cases W (length ws) c)) (answer! W c ws) z e
 
@@ -59,14 +59,14 @@ read_low K n Signed u l h = signed_low K n u l h
 
 module _ (W : ℕ) (wide : 0 < W) (ws : List ℕ) (s : Span) (K : ℕ) (e : Significance) where
   -- a store and a strict store that are accepted leave a field that can be loaded
-  load_of_store : (g : Sign) (v : ℤ) (n : ℕ) → verdict (store_cases W n s K g v) ≡ Fine → verdict (load_cases W n s K) ≡ Fine
+  load_of_store : (g : Sign) (v : ℤ) (n : ℕ) → verdict (store_cases W n s K g v) ≡ Ok tt → verdict (load_cases W n s K) ≡ Ok tt
   unfolding store_cases value_cases load_cases
   load_of_store g v n h =
       let f = fine_parts (span_cases W n s) (value_cases K s.len g v) h in
       let k = fine_parts (field_cases K s.len) (NotAnInteger when not (is_integer K g v) ∷ []) f.1 in
       goes (span_cases W n s) (field_cases K s.len) f.0 ∙ k.0
 
-  store_of_strict : (g : Sign) (v : ℤ) (n : ℕ) → verdict (store_strict_cases W n s K g v) ≡ Fine → verdict (store_cases W n s K g v) ≡ Fine
+  store_of_strict : (g : Sign) (v : ℤ) (n : ℕ) → verdict (store_strict_cases W n s K g v) ≡ Ok tt → verdict (store_cases W n s K g v) ≡ Ok tt
   unfolding store_strict_cases fitting_cases store_cases
   store_of_strict g v n h =
       let f = fine_parts (span_cases W n s) (fitting_cases K s.len g v) h in
@@ -77,11 +77,11 @@ module _ (W : ℕ) (wide : 0 < W) (ws : List ℕ) (s : Span) (K : ℕ) (e : Sign
   unfolding start
   bounds n i = i.ends
 
-  loaded : (c : Call) (f : Sign) (vs : List ℕ) → verdict (load_cases W (length ws) s K) ≡ Fine → after W c ws ≡ vs
+  loaded : (c : Call) (f : Sign) (vs : List ℕ) → verdict (load_cases W (length ws) s K) ≡ Ok tt → after W c ws ≡ vs
       → answer W (load s K e f) (after W c ws) ≡ a_number (read_as f s.len (load_of W s.order e vs (start W s) s.len))
   unfolding cases answer!
   loaded c f vs h q =
-      let same : verdict (load_cases W (length (after W c ws)) s K) ≡ Fine = ap (λ (n : ℕ). verdict (load_cases W n s K)) (length_after W wide c ws) ∙ h in
+      let same : verdict (load_cases W (length (after W c ws)) s K) ≡ Ok tt = ap (λ (n : ℕ). verdict (load_cases W n s K)) (length_after W wide c ws) ∙ h in
       (accepted_call W (load s K e f) (after W c ws) same).0 ∙ ap (λ (xs : List ℕ). a_number (read_as f s.len (load_of W s.order e xs (start W s) s.len))) q
 
   -- A stored field loads back as the low bits of the value: unsigned as they are, signed with the sign extended.
@@ -89,7 +89,7 @@ module _ (W : ℕ) (wide : 0 < W) (ws : List ℕ) (s : Span) (K : ℕ) (e : Sign
       → answer W (load s K e f) (after W (store s K e g v) ws) ≡ a_number (read_as f s.len (bits_of K v % 2 ^ s.len))
   unfolding cases after!
   stored_back g f v h =
-      let fine : verdict (store_cases W (length ws) s K g v) ≡ Fine = fine_of_done W (store s K e g v) ws h in
+      let fine : verdict (store_cases W (length ws) s K g v) ≡ Ok tt = fine_of_done W (store s K e g v) ws h in
       let i = fine_store W (length ws) s K g v fine in
       loaded (store s K e g v) f (store_of W s.order e ws (start W s) s.len (bits_of K v)) (load_of_store g v (length ws) fine) (accepted_call W (store s K e g v) ws fine).1
       ∙ ap a_number (stored_loaded W wide s.order e f K v ws (start W s) s.len (bounds (length ws) i.lies))
@@ -98,7 +98,7 @@ module _ (W : ℕ) (wide : 0 < W) (ws : List ℕ) (s : Span) (K : ℕ) (e : Sign
   pub strictly_back : (g : Sign) (v : ℤ) → answer W (store_strict s K e g v) ws ≡ done → answer W (load s K e g) (after W (store_strict s K e g v) ws) ≡ a_number v
   unfolding cases after!
   strictly_back g v h =
-      let fine : verdict (store_strict_cases W (length ws) s K g v) ≡ Fine = fine_of_done W (store_strict s K e g v) ws h in
+      let fine : verdict (store_strict_cases W (length ws) s K g v) ≡ Ok tt = fine_of_done W (store_strict s K e g v) ws h in
       let i = fine_strict W (length ws) s K g v fine in
       let z = i.fitted.valued.sized in
       loaded (store_strict s K e g v) g (store_of W s.order e ws (start W s) s.len (bits_of K v)) (load_of_store g v (length ws) (store_of_strict g v (length ws) fine)) (accepted_call W (store_strict s K e g v) ws fine).1
@@ -110,13 +110,13 @@ module _ (W : ℕ) (wide : 0 < W) (ws : List ℕ) (s : Span) (K : ℕ) (e : Sign
   unfolding cases answer! after! load_cases store_cases value_cases
   loaded_back g v words h =
       let u = load_of W s.order e ws (start W s) s.len in
-      let fine : verdict (load_cases W (length ws) s K) ≡ Fine = fine_of_number W (load s K e g) ws v h in
+      let fine : verdict (load_cases W (length ws) s K) ≡ Ok tt = fine_of_number W (load s K e g) ws v h in
       let z = (fine_load W (length ws) s K fine).sized in
       let small : u < 2 ^ s.len = load_lt W wide s.order e ws (start W s) s.len in
       let is : v ≡ read_as g s.len u = one_integer v (read_as g s.len u) (sym h ∙ (accepted_call W (load s K e g) ws fine).0) in
       let f = fine_parts (span_cases W (length ws) s) (field_cases K s.len) fine in
       let whole : is_integer K g v ≡ true = ap (is_integer K g) is ∙ read_integer K s.len g u z.some z.fitting small in
-      let taken : verdict (store_cases W (length ws) s K g v) ≡ Fine =
+      let taken : verdict (store_cases W (length ws) s K g v) ≡ Ok tt =
       goes (span_cases W (length ws) s) (value_cases K s.len g v) f.0 ∙ last_clear (field_cases K s.len) NotAnInteger (not (is_integer K g v)) f.1 (ap not whole) in
       let c = accepted_call W (store s K e g v) ws taken in
       let low : bits_of K v % 2 ^ s.len ≡ u = ap (λ (x : ℤ). bits_of K x % 2 ^ s.len) is ∙ read_low K s.len g u z.fitting small in (
@@ -135,7 +135,7 @@ module _ (W : ℕ) (wide : 0 < W) (ws : List ℕ) (s : Span) (K : ℕ) (e : Sign
   pub weighs : (u i : ℕ) → answer W (load s K e Unsigned) ws ≡ a_number (pos u) → i < s.len → bit_n u (exponent W s.order e (start W s) s.len i) ≡ span_bit W ws s i
   unfolding cases answer! read_as span_bit
   weighs u i h l =
-      let fine : verdict (load_cases W (length ws) s K) ≡ Fine = fine_of_number W (load s K e Unsigned) ws (pos u) h in
+      let fine : verdict (load_cases W (length ws) s K) ≡ Ok tt = fine_of_number W (load s K e Unsigned) ws (pos u) h in
       let is : pos u ≡ pos (load_of W s.order e ws (start W s) s.len) = one_integer _ _ (sym h ∙ (accepted_call W (load s K e Unsigned) ws fine).0) in
       let same : u ≡ load_of W s.order e ws (start W s) s.len = cc in
       ap (λ (x : ℕ). bit_n x (exponent W s.order e (start W s) s.len i)) same ∙ load_bit W wide s.order e ws (start W s) s.len i l

@@ -6,7 +6,7 @@ use mathlib.Core.List.{List}
 use Prim.Native.Nat.{ℕ, ◌+◌, ◌*◌, ◌≤◌, ◌<◌}
 use native.Mathlib.Omega.{arith}
 use lib.ListN.{length, get_or}
-use Rattle.rules.specs.Types.{Span, Verdict, Fine, Refused}
+use Rattle.rules.specs.Types.{Span, Verdict, Ok, Err}
 use Rattle.rules.specs.Bits.{bit_n, bit_at}
 use Rattle.rules.specs.Positions.{start, span_bit, covers}
 use Rattle.rules.specs.Rows.{copied, applied, right_bit, combined, same_spans}
@@ -105,7 +105,7 @@ module _ (W : ℕ) (wide : 0 < W) (ws : List ℕ) where
   -- ---- swap: two buffers
 
   module _ (s : Span) (vs : List ℕ) (t : Span) where
-    swap_fine : swap_answer W ws s vs t ≡ done → swap_verdict W ws s vs t ≡ Fine
+    swap_fine : swap_answer W ws s vs t ≡ done → swap_verdict W ws s vs t ≡ Ok tt
     unfolding swap_answer
     swap_fine e = done_fine (swap_verdict W ws s vs t) done e
 
@@ -132,8 +132,8 @@ module _ (W : ℕ) (wide : 0 < W) (ws : List ℕ) where
     copied_outside : (k : Verdict) (xs : List ℕ) (a : Span) (ys : List ℕ) (b : Span) (q : ℕ) → span_covers W a q ≡ false
         → bit_at W (unless k (copied W xs a ys b) xs) q ≡ bit_at W xs q
     unfolding copied
-    copied_outside Fine xs a ys b q out = spliced_outside W wide a.order xs (start W a) a.len (span_bit W ys b) q out
-    copied_outside (Refused r) xs a ys b q out = refl
+    copied_outside (Ok _) xs a ys b q out = spliced_outside W wide a.order xs (start W a) a.len (span_bit W ys b) q out
+    copied_outside (Err r) xs a ys b q out = refl
 
     pub swapped_beside_left : (k p : ℕ) → p < W → span_covers W s (k * W + p) ≡ false → bit_n (get_or (swap_left W ws s vs t) k 0) p ≡ bit_n (get_or ws k 0) p
     unfolding swap_left
@@ -153,14 +153,14 @@ pub record Agree (W : ℕ) (xs : List ℕ) (s : Span) (ys : List ℕ) (t : Span)
   pub bits : (i : ℕ) → i < s.len → span_bit W xs s i ≡ span_bit W ys t i
 
 yes_behind : (v : Verdict) (b : Bool) → said v (cond b says_yes says_no) ≡ says_yes → b ≡ true
-yes_behind Fine true e = refl
-yes_behind Fine false e = let z : ◌≡◌ {A = ℕ} 0 1 = cc in absurd (omega arith)
-yes_behind (Refused r) b e = let z : ◌≡◌ {A = ℕ} 0 1 = cc in absurd (omega arith)
+yes_behind (Ok _) true e = refl
+yes_behind (Ok _) false e = let z : ◌≡◌ {A = ℕ} 0 1 = cc in absurd (omega arith)
+yes_behind (Err r) b e = let z : ◌≡◌ {A = ℕ} 0 1 = cc in absurd (omega arith)
 
 no_behind : (v : Verdict) (b : Bool) → said v (cond b says_yes says_no) ≡ says_no → b ≡ true → ⊥
-no_behind Fine true e h = let z : ◌≡◌ {A = ℕ} 0 1 = cc in omega arith
-no_behind Fine false e h = let z : ◌≡◌ {A = ℕ} 0 1 = cc in omega arith
-no_behind (Refused r) b e h = let z : ◌≡◌ {A = ℕ} 0 1 = cc in omega arith
+no_behind (Ok _) true e h = let z : ◌≡◌ {A = ℕ} 0 1 = cc in omega arith
+no_behind (Ok _) false e h = let z : ◌≡◌ {A = ℕ} 0 1 = cc in omega arith
+no_behind (Err r) b e h = let z : ◌≡◌ {A = ℕ} 0 1 = cc in omega arith
 
 not_yes : (b : Bool) → (b ≡ true → ⊥) → cond b says_yes says_no ≡ says_no
 not_yes true h = absurd (h refl)
@@ -186,7 +186,7 @@ module _ (W : ℕ) (ws : List ℕ) (a : Side) (s : Span) (b : Side) (t : Span) w
   says_no_differ e g = no_behind (verdict (cases W (length ws) (equal a s b t))) same e (agreed g)
 
   -- What is so is answered, unless it is refused.
-  module _ (fine : verdict (pair_cases W (lent_of (length ws) a) s (lent_of (length ws) b) t) ≡ Fine) where
+  module _ (fine : verdict (pair_cases W (lent_of (length ws) a) s (lent_of (length ws) b) t) ≡ Ok tt) where
     pub agree_says_yes : Agree W (words_of ws a) s (words_of ws b) t → answer W (equal a s b t) ws ≡ says_yes
     unfolding cases answer!
     agree_says_yes g = (accepted_call W (equal a s b t) ws fine).0 ∙ ap (λ (x : Bool). cond x says_yes says_no) (agreed g)

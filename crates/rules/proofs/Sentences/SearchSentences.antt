@@ -9,7 +9,7 @@ use native.Mathlib.Omega.{arith}
 use lib.Dec.{ltb}
 use lib.ListN.{length}
 use borrow.Author.Tests.{ltb-true, ltb-false}
-use Rattle.rules.specs.Types.{Span, Verdict, Fine, Refused}
+use Rattle.rules.specs.Types.{Span, Verdict, Ok, Err}
 use Rattle.rules.specs.Positions.{span_bit}
 use Rattle.rules.specs.Rows.{first_with, last_with}
 use Rattle.rules.specs.Refusals.{verdict, span_cases}
@@ -32,14 +32,14 @@ pub record Last (n : ℕ) (b : ℕ → ℕ) (v i : ℕ) : Type 0 where
 abbrev pub None : ℕ → (ℕ → ℕ) → ℕ → Type 0
 None n b v = (j : ℕ) → j < n → b j ≢ v
 
--- an answer found or absent stands behind `Fine`
+-- an answer found or absent stands behind `Ok`
 behind_found : (x : Verdict) (a : Answer) (i : ℕ) → said x a ≡ found_at i → a ≡ found_at i
-behind_found Fine a i e = e
-behind_found (Refused r) a i e = let z : ◌≡◌ {A = ℕ} 0 1 = cc in absurd (omega arith)
+behind_found (Ok _) a i e = e
+behind_found (Err r) a i e = let z : ◌≡◌ {A = ℕ} 0 1 = cc in absurd (omega arith)
 
 behind_absent : (x : Verdict) (a : Answer) → said x a ≡ absent → a ≡ absent
-behind_absent Fine a e = e
-behind_absent (Refused r) a e = let z : ◌≡◌ {A = ℕ} 0 1 = cc in absurd (omega arith)
+behind_absent (Ok _) a e = e
+behind_absent (Err r) a e = let z : ◌≡◌ {A = ℕ} 0 1 = cc in absurd (omega arith)
 
 first_found_at : (n k i : ℕ) → first_found n k ≡ found_at i → (k ≡ i) × (k < n)
 first_found_at n k i e = go (ltb k n) refl e
@@ -101,7 +101,7 @@ module _ (W v : ℕ) (s : Span) (ws : List ℕ) where
 
   -- ---- what is so is answered, unless the span is refused
 
-  module _ (fine : verdict (span_cases W (length ws) s) ≡ Fine) where
+  module _ (fine : verdict (span_cases W (length ws) s) ≡ Ok tt) where
     pub first_answered : (i : ℕ) → First s.len (span_bit W ws s) v i → answer W (find_first v s) ws ≡ found_at i
     first_answered i f = first_said W v s ws fine ∙ first_at n b v i f.below f.has f.none_before
 

@@ -10,7 +10,7 @@ use lib.ListN.{length}
 use lib.Dec.{eqb}
 use lib.IntN.{ℤ}
 use borrow.Author.Tests.{eqb-true, eq-eqb, lt-ltb, le-ltb}
-use Rattle.rules.specs.Types.{Order, Span, Significance, Sign, Refusal, Verdict, Fine, Refused, Lsb0}
+use Rattle.rules.specs.Types.{Order, Span, Significance, Sign, Refusal, Verdict, Ok, Err, Lsb0}
 use Rattle.rules.specs.Bits.{bit_n, of_bits, tabulate, bit_at, from_bits}
 use Rattle.rules.specs.Positions.{row, start, span_bit, position, mirror, from_row, within, over, spliced}
 use Rattle.rules.specs.Fields.{load_of, read_as, bits_of, store_of, fits}
@@ -37,17 +37,17 @@ booleans = refl
 -- ---- refused and accepted calls
 
 -- Each returns its number alone, and all lent memory holds its old bits.
-pub refused_call : (W : ℕ) (c : Call) (ws : List ℕ) (r : Refusal) → verdict (cases W (length ws) c) ≡ Refused r → (answer W c ws ≡ refused (number r)) × (after W c ws ≡ ws)
+pub refused_call : (W : ℕ) (c : Call) (ws : List ℕ) (r : Refusal) → verdict (cases W (length ws) c) ≡ Err r → (answer W c ws ≡ refused (number r)) × (after W c ws ≡ ws)
 unfolding answer after
 refused_call W c ws r e = (ap (λ (v : Verdict). said v (answer! W c ws)) e, ap (λ (v : Verdict). unless v (after! W c ws) ws) e)
 
-pub accepted_call : (W : ℕ) (c : Call) (ws : List ℕ) → verdict (cases W (length ws) c) ≡ Fine → (answer W c ws ≡ answer! W c ws) × (after W c ws ≡ after! W c ws)
+pub accepted_call : (W : ℕ) (c : Call) (ws : List ℕ) → verdict (cases W (length ws) c) ≡ Ok tt → (answer W c ws ≡ answer! W c ws) × (after W c ws ≡ after! W c ws)
 unfolding answer after
 accepted_call W c ws e = (ap (λ (v : Verdict). said v (answer! W c ws)) e, ap (λ (v : Verdict). unless v (after! W c ws) ws) e)
 
 -- the same of a swap: both buffers
 module _ (W : ℕ) (ws : List ℕ) (s : Span) (vs : List ℕ) (t : Span) where
-  pub refused_swap : (r : Refusal) → swap_verdict W ws s vs t ≡ Refused r
+  pub refused_swap : (r : Refusal) → swap_verdict W ws s vs t ≡ Err r
       → (swap_answer W ws s vs t ≡ refused (number r)) × (swap_left W ws s vs t ≡ ws) × (swap_right W ws s vs t ≡ vs)
   unfolding swap_answer swap_left swap_right
   refused_swap r e = (
@@ -56,7 +56,7 @@ module _ (W : ℕ) (ws : List ℕ) (s : Span) (vs : List ℕ) (t : Span) where
     ap (λ (v : Verdict). unless v (copied W vs t ws s) vs) e,
   )
 
-  pub accepted_swap : swap_verdict W ws s vs t ≡ Fine
+  pub accepted_swap : swap_verdict W ws s vs t ≡ Ok tt
       → (swap_answer W ws s vs t ≡ done) × (swap_left W ws s vs t ≡ copied W ws s vs t) × (swap_right W ws s vs t ≡ copied W vs t ws s)
   unfolding swap_answer swap_left swap_right
   accepted_swap e = (
@@ -66,11 +66,11 @@ module _ (W : ℕ) (ws : List ℕ) (s : Span) (vs : List ℕ) (t : Span) where
   )
 
 -- an answer `done` tells that the request was accepted
-pub done_fine : (v : Verdict) (a : Answer) → said v a ≡ done → v ≡ Fine
-done_fine Fine a e = refl
-done_fine (Refused r) a e = let z : ◌≡◌ {A = ℕ} 0 1 = cc in absurd (omega arith)
+pub done_fine : (v : Verdict) (a : Answer) → said v a ≡ done → v ≡ Ok tt
+done_fine (Ok _) a e = refl
+done_fine (Err r) a e = let z : ◌≡◌ {A = ℕ} 0 1 = cc in absurd (omega arith)
 
-pub fine_of_done : (W : ℕ) (c : Call) (ws : List ℕ) → answer W c ws ≡ done → verdict (cases W (length ws) c) ≡ Fine
+pub fine_of_done : (W : ℕ) (c : Call) (ws : List ℕ) → answer W c ws ≡ done → verdict (cases W (length ws) c) ≡ Ok tt
 unfolding answer
 fine_of_done W c ws e = done_fine (verdict (cases W (length ws) c)) (answer! W c ws) e
 

@@ -7,7 +7,7 @@ use mathlib.Core.List.{List, map}
 use native.Mathlib.Omega.{arith}
 use lib.ListN.{length, length-map}
 use lib.Dec.{ltb}
-use Rattle.rules.specs.Types.{Span, Refusal, Verdict, Fine, Refused}
+use Rattle.rules.specs.Types.{Span, Refusal, Verdict, Ok, Err}
 use Rattle.rules.specs.Rows.{same_spans, first_with, last_with}
 use Rattle.rules.specs.Positions.{span_bit}
 use Rattle.rules.specs.Refusals.{number, verdict, pair_cases, copy_cases}
@@ -99,9 +99,9 @@ unfolding answer
 same_refusal W c d ws vs m e l h = go (verdict (cases W (length ws) c)) (verdict (cases W (length vs) d)) (same_verdict W c d ws vs e l) h
   where
     go : (v w : Verdict) → v ≡ w → said v (answer! W c ws) ≡ refused m → said w (answer! W d vs) ≡ refused m
-    go Fine w q h = absurd (unrefused W c ws m h)
-    go (Refused r) Fine q h = let z : ◌≡◌ {A = ℕ} 0 1 = cc in absurd (omega arith)
-    go (Refused r) (Refused r') q h = let z : r ≡ r' = cc in ap (λ (x : Refusal). refused (number x)) (sym z) ∙ h
+    go (Ok _) w q h = absurd (unrefused W c ws m h)
+    go (Err r) (Ok _) q h = let z : ◌≡◌ {A = ℕ} 0 1 = cc in absurd (omega arith)
+    go (Err r) (Err r') q h = let z : r ≡ r' = cc in ap (λ (x : Refusal). refused (number x)) (sym z) ∙ h
 
 -- and of a swap: one verdict, one answer
 pub same_swap : (W : ℕ) (s t : Span) (ws ws' vs vs' : List ℕ) → length ws ≡ length ws' → length vs ≡ length vs'

@@ -15,9 +15,6 @@ small b = omega (arith, b.fitting, one_of _ b.sized)
 pub reason-requires : goal.reason-requires
 reason-requires c = λ e. c.is_begun-begun.ensures.1 c.if-not-begun.true (fine_begun _ _ _ _ e)
 
-pub returns-then-not-begun : goal.returns-then-not-begun
-returns-then-not-begun c = judges (sym c.reason.ensures)
-
 pub overflow_sub-span : goal.overflow_sub-span
 overflow_sub-span c = small (c.is_begun-begun.ensures.0 c.if-not-begun.false)
 
@@ -28,10 +25,6 @@ returns-then-head-span c =
 pub returns-then-head-ge-CHUNK : goal.returns-then-head-ge-CHUNK
 returns-then-head-ge-CHUNK c =
     judges (sym (head_refused _ _ _ _ (c.is_begun-begun.ensures.0 c.if-not-begun.false) (omega arith)))
-
-pub overflow_add-span : goal.overflow_add-span
-overflow_add-span c =
-    let b = c.is_begun-begun.ensures.0 c.if-not-begun.false in omega (arith, b.first, b.few)
 
 pub returns-then-lent-span : goal.returns-then-lent-span
 returns-then-lent-span c =

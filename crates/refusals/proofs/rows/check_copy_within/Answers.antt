@@ -7,33 +7,33 @@ use lib.Dec.{ltb}
 use borrow.Author.Tests.{lt-ltb, le-ltb}
 use Rattle.rules.specs.Refusals.{within_cases}
 use Rattle.rules.proofs.Refusals.Tables.{stops, last_holds, last_clear}
-use Rattle.rules.proofs.Refusals.OneAnswer.{judged, judges}
+use Rattle.rules.proofs.Refusals.OneAnswer.{accepted, declined, judges, judges_passed}
 use Rattle.refusals.proofs.rows.check_copy_within.Goals as goal
 
 pub returns-then-len-count : goal.returns-then-len-count
 unfolding within_cases
 returns-then-len-count c =
     judges (let a = c.args in
-    sym (last_holds _ _ _ (sym (judged c.check-one.ensures) ∙ c.in-Fine.is) (ap (λ (b : Bool). b || ltb a.span.len (a.to + a.count)) (lt-ltb a.span.len (a.from + a.count) (omega arith)))))
+    sym (last_holds _ _ _ (accepted c.check.ensures c.in_ok-check.was) (ap (λ (b : Bool). b || ltb a.span.len (a.to + a.count)) (lt-ltb a.span.len (a.from + a.count) (omega arith)))))
 
 pub returns-then-room-from : goal.returns-then-room-from
 unfolding within_cases
 returns-then-room-from c =
     judges (let a = c.args in
-    sym (last_holds _ _ _ (sym (judged c.check-one.ensures) ∙ c.in-Fine.is) (ap (λ (b : Bool). b || ltb a.span.len (a.to + a.count)) (lt-ltb a.span.len (a.from + a.count) (omega arith)))))
+    sym (last_holds _ _ _ (accepted c.check.ensures c.in_ok-check.was) (ap (λ (b : Bool). b || ltb a.span.len (a.to + a.count)) (lt-ltb a.span.len (a.from + a.count) (omega arith)))))
 
 pub returns-then-room-to : goal.returns-then-room-to
 unfolding within_cases
 returns-then-room-to c =
     judges (let a = c.args in
-    sym (last_holds _ _ _ (sym (judged c.check-one.ensures) ∙ c.in-Fine.is) (ap (λ (b : Bool). ltb a.span.len (a.from + a.count) || b) (lt-ltb a.span.len (a.to + a.count) (omega arith)) ∙ or-true (ltb a.span.len (a.from + a.count)))))
+    sym (last_holds _ _ _ (accepted c.check.ensures c.in_ok-check.was) (ap (λ (b : Bool). ltb a.span.len (a.from + a.count) || b) (lt-ltb a.span.len (a.to + a.count) (omega arith)) ∙ or-true (ltb a.span.len (a.from + a.count)))))
 
-pub returns-in-Refused : goal.returns-in-Refused
+pub returns-in_err-check : goal.returns-in_err-check
 unfolding within_cases
-returns-in-Refused c = judges (sym (stops _ _ (sym (judged c.check-one.ensures) ∙ c.in-Refused.is)))
+returns-in_err-check c = judges_passed c.from_residual.ensures.1 (stops _ _ (declined c.check.ensures c.in_err-check.was))
 
-pub returns-else-room-to : goal.returns-else-room-to
+pub returns : goal.returns
 unfolding within_cases
-returns-else-room-to c =
+returns c =
     judges (let a = c.args in
-    sym (last_clear _ _ _ (sym (judged c.check-one.ensures) ∙ c.in-Fine.is) (ap₂ ◌||◌ (le-ltb a.span.len (a.from + a.count) (omega arith)) (le-ltb a.span.len (a.to + a.count) (omega arith)))))
+    sym (last_clear _ _ _ (accepted c.check.ensures c.in_ok-check.was) (ap₂ ◌||◌ (le-ltb a.span.len (a.from + a.count) (omega arith)) (le-ltb a.span.len (a.to + a.count) (omega arith)))))

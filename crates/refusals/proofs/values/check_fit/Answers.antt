@@ -5,23 +5,22 @@ use native.Mathlib.Omega.{arith}
 use Rattle.rules.specs.Refusals.{fitting_cases}
 use Rattle.rules.proofs.Refusals.Tables.{stops, last_holds, last_clear}
 use Rattle.rules.proofs.Refusals.Accepted.{fine_valued}
-use Rattle.rules.proofs.Refusals.OneAnswer.{judged, judges}
+use Rattle.rules.proofs.Refusals.OneAnswer.{accepted, declined, judges, judges_passed}
 use Rattle.refusals.proofs.values.check_fit.Goals as goal
 
-pub fits-small-requires : goal.fits-small-requires
-fits-small-requires c =
-    let v = fine_valued _ _ _ _ (sym (judged c.check_value-verdict.ensures) ∙ c.in-Fine.is) in let s = v.sized in (omega arith, omega arith)
+pub fits-requires : goal.fits-requires
+fits-requires c = let s = (fine_valued _ _ _ _ (accepted c.check_value.ensures c.in_ok-check_value.was)).sized in (omega arith, omega arith)
 
-pub returns-in-Refused : goal.returns-in-Refused
+pub returns-in_err-check_value : goal.returns-in_err-check_value
 unfolding fitting_cases
-returns-in-Refused c = judges (sym (stops _ _ (sym (judged c.check_value-verdict.ensures) ∙ c.in-Refused.is)))
+returns-in_err-check_value c = judges_passed c.from_residual.ensures.1 (stops _ _ (declined c.check_value.ensures c.in_err-check_value.was))
 
-pub returns-then-small : goal.returns-then-small
+pub returns-then-fits : goal.returns-then-fits
 unfolding fitting_cases
-returns-then-small c =
-    judges (sym (last_clear _ _ _ (sym (judged c.check_value-verdict.ensures) ∙ c.in-Fine.is) (ap not (sym c.fits-small.ensures ∙ c.if-small.true))))
+returns-then-fits c =
+    judges (sym (last_clear _ _ _ (accepted c.check_value.ensures c.in_ok-check_value.was) (ap not (sym c.fits.ensures ∙ c.if-fits.true))))
 
-pub returns-else-small : goal.returns-else-small
+pub returns : goal.returns
 unfolding fitting_cases
-returns-else-small c =
-    judges (sym (last_holds _ _ _ (sym (judged c.check_value-verdict.ensures) ∙ c.in-Fine.is) (ap not (sym c.fits-small.ensures ∙ c.if-small.false))))
+returns c =
+    judges (sym (last_holds _ _ _ (accepted c.check_value.ensures c.in_ok-check_value.was) (ap not (sym c.fits.ensures ∙ c.if-fits.false))))

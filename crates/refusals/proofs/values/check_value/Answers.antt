@@ -5,23 +5,22 @@ use native.Mathlib.Omega.{arith}
 use Rattle.rules.specs.Refusals.{value_cases}
 use Rattle.rules.proofs.Refusals.Tables.{stops, last_holds, last_clear}
 use Rattle.rules.proofs.Refusals.Accepted.{fine_sized}
-use Rattle.rules.proofs.Refusals.OneAnswer.{judged, judges}
+use Rattle.rules.proofs.Refusals.OneAnswer.{accepted, declined, judges, judges_passed}
 use Rattle.refusals.proofs.values.check_value.Goals as goal
 
-pub is_integer-integer-requires : goal.is_integer-integer-requires
-is_integer-integer-requires c =
-    let s = fine_sized _ _ (sym (judged c.check_field-verdict.ensures) ∙ c.in-Fine.is) in (omega arith, omega arith)
+pub is_integer-requires : goal.is_integer-requires
+is_integer-requires c = let s = fine_sized _ _ (accepted c.check_field.ensures c.in_ok-check_field.was) in (omega arith, omega arith)
 
-pub returns-in-Refused : goal.returns-in-Refused
+pub returns-in_err-check_field : goal.returns-in_err-check_field
 unfolding value_cases
-returns-in-Refused c = judges (sym (stops _ _ (sym (judged c.check_field-verdict.ensures) ∙ c.in-Refused.is)))
+returns-in_err-check_field c = judges_passed c.from_residual.ensures.1 (stops _ _ (declined c.check_field.ensures c.in_err-check_field.was))
 
-pub returns-then-integer : goal.returns-then-integer
+pub returns-then-is_integer : goal.returns-then-is_integer
 unfolding value_cases
-returns-then-integer c =
-    judges (sym (last_clear _ _ _ (sym (judged c.check_field-verdict.ensures) ∙ c.in-Fine.is) (ap not (sym c.is_integer-integer.ensures ∙ c.if-integer.true))))
+returns-then-is_integer c =
+    judges (sym (last_clear _ _ _ (accepted c.check_field.ensures c.in_ok-check_field.was) (ap not (sym c.is_integer.ensures ∙ c.if-is_integer.true))))
 
-pub returns-else-integer : goal.returns-else-integer
+pub returns : goal.returns
 unfolding value_cases
-returns-else-integer c =
-    judges (sym (last_holds _ _ _ (sym (judged c.check_field-verdict.ensures) ∙ c.in-Fine.is) (ap not (sym c.is_integer-integer.ensures ∙ c.if-integer.false))))
+returns c =
+    judges (sym (last_holds _ _ _ (accepted c.check_field.ensures c.in_ok-check_field.was) (ap not (sym c.is_integer.ensures ∙ c.if-is_integer.false))))

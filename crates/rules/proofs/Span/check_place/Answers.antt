@@ -1,19 +1,19 @@
 -- `Span::check_place`: the span's table, then its last row.
-use mathlib.Core.Path.{sym, ◌∙◌}
+use mathlib.Core.Path.{sym}
 use borrow.Author.Tests.{lt-ltb, le-ltb}
 use Rattle.rules.specs.Refusals.{split_cases}
 use Rattle.rules.proofs.Refusals.Tables.{stops, last_holds, last_clear}
-use Rattle.rules.proofs.Refusals.OneAnswer.{judged, judges}
+use Rattle.rules.proofs.Refusals.OneAnswer.{accepted, declined, judges, judges_passed}
 use Rattle.rules.proofs.Span.check_place.Goals as goal
 
-pub returns-in-Refused : goal.returns-in-Refused
+pub returns-in_err-check : goal.returns-in_err-check
 unfolding split_cases
-returns-in-Refused c = judges (sym (stops _ _ (sym (judged c.check-verdict.ensures) ∙ c.in-Refused.is)))
+returns-in_err-check c = judges_passed c.from_residual.ensures.1 (stops _ _ (declined c.check.ensures c.in_err-check.was))
 
 pub returns-then-self-p : goal.returns-then-self-p
 unfolding split_cases
-returns-then-self-p c = judges (sym (last_holds _ _ _ (sym (judged c.check-verdict.ensures) ∙ c.in-Fine.is) (lt-ltb _ _ c.if-self-p.true)))
+returns-then-self-p c = judges (sym (last_holds _ _ _ (accepted c.check.ensures c.in_ok-check.was) (lt-ltb _ _ c.if-self-p.true)))
 
-pub returns-else-self-p : goal.returns-else-self-p
+pub returns : goal.returns
 unfolding split_cases
-returns-else-self-p c = judges (sym (last_clear _ _ _ (sym (judged c.check-verdict.ensures) ∙ c.in-Fine.is) (le-ltb _ _ c.if-self-p.false)))
+returns c = judges (sym (last_clear _ _ _ (accepted c.check.ensures c.in_ok-check.was) (le-ltb _ _ c.if-self-p.false)))

@@ -6,7 +6,6 @@ use lib.Dec.{ltb}
 use Rattle.rules.specs.Bits.{bits}
 use Rattle.rules.specs.Positions.{in_bounds}
 use Rattle.rules.proofs.Refusals.Room.{none_left, some_left, no_word, no_room, by_room}
-use Rattle.rules.proofs.Refusals.Widths.{room_fits}
 use Rattle.rules.proofs.Span.is_outside.Goals as goal
 
 pub returns-then-lent-word-2 : goal.returns-then-lent-word-2
@@ -27,14 +26,6 @@ returns-then-lent-word c =
     let W = bits a.width in
     let z : 0 ≡ (a.lent - a.self.word) * W - a.self.head.0 = omega (arith, none_left W c.if-lent-word.true) in
     ap (λ (x : ℕ). ltb x a.self.len) z ∙ by_room W a.self.head.0 a.self.len c.if-lent-word-2.false (omega (arith, none_left W c.if-lent-word.true))
-
-pub overflow_mul-result : goal.overflow_mul-result
-overflow_mul-result c =
-    let a = c.args in
-    record { fits = rw c.bits-w.ensures (room_fits a.width (a.lent - a.self.word) (omega arith)) }
-
-pub overflow_sub-result-2 : goal.overflow_sub-result-2
-overflow_sub-result-2 c = let w = c.bits-w.result in omega (arith, some_left w c.if-lent-word.false, c.bits-w.ensures)
 
 pub returns : goal.returns
 unfolding in_bounds

@@ -1,16 +1,13 @@
--- `Span::shift`: the verdict decides, and the span is the second half.
-use mathlib.Core.Path.{sym, ap, ◌∙◌}
+-- `Span::shift`: the place decides, and the span is the second half.
+use mathlib.Core.Path.{ap}
 use Rattle.rules.specs.Calls.{shift_answer, a_span}
-use Rattle.rules.proofs.Refusals.OneAnswer.{said_refused, said_fine, judged}
+use Rattle.rules.proofs.Refusals.OneAnswer.{said_passed, said_fine, accepted, declined}
 use Rattle.rules.proofs.Span.shift.Goals as goal
 
-pub rest-requires : goal.rest-requires
-rest-requires c = sym (judged c.check_place-verdict.ensures) ∙ c.in-Fine.is
-
-pub returns-in-Refused : goal.returns-in-Refused
+pub returns-in_err-check_place : goal.returns-in_err-check_place
 unfolding shift_answer
-returns-in-Refused c = said_refused _ (sym (judged c.check_place-verdict.ensures) ∙ c.in-Refused.is)
+returns-in_err-check_place c = said_passed _ _ _ c.from_residual.ensures.1 (declined c.check_place.ensures c.in_err-check_place.was)
 
-pub returns-in-Fine : goal.returns-in-Fine
+pub returns : goal.returns
 unfolding shift_answer
-returns-in-Fine c = said_fine (sym (judged c.check_place-verdict.ensures) ∙ c.in-Fine.is) (ap a_span c.rest.ensures)
+returns c = said_fine (accepted c.check_place.ensures c.in_ok-check_place.was) (ap a_span c.rest.ensures)

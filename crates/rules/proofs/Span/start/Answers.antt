@@ -4,17 +4,10 @@ use Prim.Native.Nat.{ℕ, ◌*◌, ◌≤◌}
 use native.Mathlib.Nat.{mul-le-mul}
 use native.Mathlib.Omega.{arith}
 use Rattle.rules.specs.Positions.{start}
-use Rattle.rules.proofs.Refusals.Room.{product_fits}
 use Rattle.rules.proofs.Span.start.Goals as goal
 
 before : (word width : ℕ) → word ≤ 65536 → word * width ≤ 65536 * width
 before word width h = mul-le-mul {n₁ = word} {m₁ = width} {n₂ = 65536} {m₂ = width} h (omega arith)
-
-pub overflow_mul-result : goal.overflow_mul-result
-overflow_mul-result c = record { fits = product_fits c.args.width c.args.self.word (omega arith) c.requires.0 }
-
-pub overflow_add-result : goal.overflow_add-result
-overflow_add-result c = let b = before c.args.self.word c.args.width c.requires.0 in omega arith
 
 pub returns : goal.returns
 unfolding start

@@ -1,2 +1,0 @@
--- What is proved of the calls beyond their promises.
-pub mod OnlyOne

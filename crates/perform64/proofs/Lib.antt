@@ -1,2 +1,0 @@
-pub mod Isolated
-pub mod OnlyOne

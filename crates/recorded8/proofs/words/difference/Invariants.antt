@@ -1,9 +1,0 @@
--- `difference` ends: each turn leaves a word fewer.
-use Rattle.std.proofs.Common.{◌-◌, ◌≤◌, length}
-use Rattle.recorded8.proofs.words.difference.Given as goal
-
-abbrev pub invariant-loop-i : goal.invariant-loop-i
-invariant-loop-i l = l.i ≤ length l.words
-
-abbrev pub decreases-loop-i : goal.decreases-loop-i
-decreases-loop-i l = length l.words - l.i

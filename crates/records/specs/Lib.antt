@@ -1,0 +1,2 @@
+-- What a record's numbers stand for.
+pub mod Calls

@@ -1,0 +1,25 @@
+-- `first_zero`: refused by the span's table, or the row's answer. Assumes nothing.
+use mathlib.Core.Path.{◌∙◌}
+use Rattle.std.specs.Prelude.{map}
+use Rattle.std.proofs.lemmas.List.{length-map}
+use Rattle.rules.proofs.Refusals.Tables.{fine_inside}
+use Rattle.rules.proofs.Refusals.OneAnswer.{accepted, declined, says_passed}
+use Rattle.rules.proofs.Searches.SearchAnswers.{first_refused, answers_first}
+use Rattle.search.proofs.first_zero.Goals as goal
+
+pub first_in_row-requires : goal.first_in_row-requires
+first_in_row-requires g c =
+    let p = fine_inside g.row.W _ _ (accepted (rw (c.WIDTH.ensures, g.met.T.Word.wide) at c.check.ensures) c.in_ok-check.was) in
+    (p.starts, p.ends, p.few)
+
+pub returns-in_err-check : goal.returns-in_err-check
+returns-in_err-check g c =
+    let a = c.args in
+    says_passed _ _ _ c.from_residual.ensures.1
+    ∙ first_refused g.row.W 0 a.span (map g.T.Word.value a.words.now) (rw length-map (declined (rw (c.WIDTH.ensures, g.met.T.Word.wide) at c.check.ensures) c.in_err-check.was))
+
+pub returns : goal.returns
+returns g c =
+    let a = c.args in
+    answers_first g.row.W 0 a.span (map g.T.Word.value a.words.now) (rw length-map (accepted (rw (c.WIDTH.ensures, g.met.T.Word.wide) at c.check.ensures) c.in_ok-check.was))
+    c.first_in_row.ensures c.first_answer.ensures
