@@ -76,10 +76,9 @@ fn store_whole<T: Word<W>, const W: usize>(part: &mut [T], significance: Signifi
     ensures { (o : Order) → map T.value part.new ≡ store_of W o significance (map T.value part.old) 0 (length part.old * W) v }
 {
     let n = part.len();
-    for i in 0..n {
+    for (i, word) in part.iter_mut().enumerate() {
         let upper = pieces::first_of(significance, v, (n - 1 - i) * W);
-        let word = pieces::rest_of(significance, upper, i * W);
-        put_word(part, i, word);
+        *word = T::of(pieces::rest_of(significance, upper, i * W));
     }
 }
 
@@ -89,9 +88,8 @@ fn load_whole<T: Word<W>, const W: usize>(part: &[T], significance: Significance
     ensures { (o : Order) → result ≡ load_of W o significance (map T.value part.now) 0 (length part.now * W) }
 {
     let mut x: u64 = 0;
-    for i in 0..part.len() {
-        let word = word_at(part, i);
-        x = pieces::join(significance, x, i * W, word, W);
+    for (i, &word) in part.iter().enumerate() {
+        x = pieces::join(significance, x, i * W, word.number(), W);
     }
     x
 }

@@ -93,9 +93,9 @@ fn funnel_words<T: Word<W>, const W: usize, F: Fn(T, T) -> T>(
         → get_or (map T.value words.new) k 0 ≡ f (get_or (map T.value words.old) k 0)
         (funneled W order head.0 (get_or (map T.value right.now) k 0) (get_or (map T.value right.now) (k + 1) 0)) }
 {
-    for i in 0..words.len() {
+    for (i, word) in words.iter_mut().enumerate() {
         let v = joined(order, head, right[i], right[i + 1]);
-        words[i] = step(words[i], v);
+        *word = step(*word, v);
     }
 }
 
@@ -105,8 +105,8 @@ fn plain_words<T: Word<W>, const W: usize, F: Fn(T, T) -> T>(words: &mut [T], ri
     ensures { (f : ℕ → ℕ → ℕ) → ((a b r : T) → F.post step a b r → T.value r ≡ f (T.value a) (T.value b)) → (k : ℕ) → k < length words.old
         → get_or (map T.value words.new) k 0 ≡ f (get_or (map T.value words.old) k 0) (get_or (map T.value right.now) k 0) }
 {
-    for i in 0..words.len() {
-        words[i] = step(words[i], right[i]);
+    for (i, word) in words.iter_mut().enumerate() {
+        *word = step(*word, right[i]);
     }
 }
 

@@ -10,7 +10,7 @@ ghost use Rattle.laws.proofs.Words.Funnel.{funneled};
 
 use refusals::check_copy;
 use rules::{Index, Order, Refusal, Span};
-use word::{Word, fetch, joined, lead, part, put, read, write};
+use word::{Word, fetch, joined, lead, part, put};
 
 // Each bit of the target's span becomes the source span's bit of the same index; the lengths are equal. Refusals 1 to 3 of the target, 1 to
 // 3 of the source, 6, 7.
@@ -157,11 +157,7 @@ fn funnel_words<T: Word<W>, const W: usize>(
     ensures { (k : ℕ) → k < length words.old → get_or (map T.value words.new) k 0 ≡ funneled W order head.0
         (get_or (map T.value source.now) k 0) (get_or (map T.value source.now) (k + 1) 0) }
 {
-    for i in 0..words.len() {
-        write(
-            words,
-            i,
-            joined(order, head, read(source, i), read(source, i + 1)),
-        );
+    for (i, word) in words.iter_mut().enumerate() {
+        *word = joined(order, head, source[i], source[i + 1]);
     }
 }

@@ -1,1 +1,2 @@
 pub mod OnlyOne
+mod Blocks

@@ -12,7 +12,7 @@ ghost use Rattle.laws.proofs.Words.Agree.{Differs, Tells};
 
 use refusals::check_pair;
 use rules::{Index, Order, Refusal, Span};
-use word::{Word, fetch, joined, lead, mask, read, under};
+use word::{Word, fetch, joined, lead, mask, part, read, under};
 
 // How many bits of words are compared before the first look at whether they differ.
 const BLOCK: usize = 4096;
@@ -103,7 +103,9 @@ fn equal_whole<T: Word<W>, const W: usize>(
     let b = q / W;
     let h = q % W;
     if h == 0 {
-        return equal_plain(left, a, k, right, b);
+        let ours = part(left, a, a + k);
+        let theirs = part(right, b, b + k);
+        return equal_plain(ours, theirs);
     }
     equal_joined(left, a, k, order, right, b, Index(h))
 }
@@ -134,27 +136,22 @@ fn equal_joined<T: Word<W>, const W: usize>(
     differ_joined(left, a + i, k - i, order, right, b + i, head).number() == 0
 }
 
-// Whether k words of the left are k words of the right as they stand, block by block.
-fn equal_plain<T: Word<W>, const W: usize>(
-    left: &[T],
-    a: usize,
-    k: usize,
-    right: &[T],
-    b: usize,
-) -> bool
-    requires { (a + k ≤ length left.now) × (b + k ≤ length right.now) }
-    ensures { Tells result k (λ i. get_or (map T.value left.now) (a + i) 0) (λ i. get_or (map T.value right.now) (b + i) 0) }
+// Whether the words of the left are those of the right as they stand, block by block.
+fn equal_plain<T: Word<W>, const W: usize>(left: &[T], right: &[T]) -> bool
+    requires { length left.now ≡ length right.now }
+    ensures { Tells result (length left.now) (λ i. get_or (map T.value left.now) i 0) (λ i. get_or (map T.value right.now) i 0) }
 {
     let size = BLOCK / W;
-    let mut i = 0;
-    while size <= k - i {
-        let v = differ_plain(left, a + i, size, right, b + i).number();
-        if v != 0 {
+    let mut ours = left;
+    let mut theirs = right;
+    while size <= ours.len() {
+        if differ_plain(&ours[..size], &theirs[..size]).number() != 0 {
             return false;
         }
-        i = i + size;
+        ours = &ours[size..];
+        theirs = &theirs[size..];
     }
-    differ_plain(left, a + i, k - i, right, b + i).number() == 0
+    differ_plain(ours, theirs).number() == 0
 }
 
 // Where n words of the left and n words of the right at a head differ, gathered in one word: 0 exactly if they are the same.
@@ -179,21 +176,14 @@ fn differ_joined<T: Word<W>, const W: usize>(
     v
 }
 
-// Where n words of the left from word a on and n words of the right from word b on differ, gathered in one word: 0 exactly if they are the
-// same.
-fn differ_plain<T: Word<W>, const W: usize>(
-    left: &[T],
-    a: usize,
-    n: usize,
-    right: &[T],
-    b: usize,
-) -> T
-    requires { (a + n ≤ length left.now) × (b + n ≤ length right.now) }
-    ensures { Differs (T.value result) n (λ i. get_or (map T.value left.now) (a + i) 0) (λ i. get_or (map T.value right.now) (b + i) 0) }
+// Where words of the left and as many of the right differ, gathered in one word: 0 exactly if they are the same.
+fn differ_plain<T: Word<W>, const W: usize>(left: &[T], right: &[T]) -> T
+    requires { length left.now ≡ length right.now }
+    ensures { Differs (T.value result) (length left.now) (λ i. get_or (map T.value left.now) i 0) (λ i. get_or (map T.value right.now) i 0) }
 {
     let mut v = T::of(0);
-    for i in 0..n {
-        v = v.or(read(left, a + i).xor(read(right, b + i)));
+    for (i, &x) in left.iter().enumerate() {
+        v = v.or(x.xor(right[i]));
     }
     v
 }

@@ -40,7 +40,7 @@ pub enum Reply {
 }
 
 impl fmt::Display for Reply {
-    // Text as of the single calls: "done", a bit as 0 or 1, a number, "equal" or "not equal", an index or "absent".
+    // "done", a bit as 0 or 1, a number, "equal" or "not equal", an index or "absent".
     fn fmt<W: fmt::Write>(&self, f: &mut fmt::Formatter<W>) -> fmt::Result {
         let reply = *self;
         match reply {

@@ -9,8 +9,8 @@ use crate::whole::skip_up;
 use rules::{Index, Order, Span};
 use word::{Word, flip, least, zeros_end};
 
-// Where a search of a span ends. The first word settles it, or the words after it do. One and zero have calls of their own, which keeps the
-// loops out of line and this function short.
+// Where a search of a span ends. The first word settles it, or the words after it do. What is further is called
+// apart for ones and for zeros, which keeps the loops out of line and this function short.
 pub fn first_in_row<T: Word<W>, const W: usize>(words: &[T], span: Span, sought: bool) -> usize
     requires { (span.head.0 < W) × (span.word * W + span.head.0 + span.len ≤ length words.now * W) × (length words.now ≤ 65536) }
     ensures { result ≡ first_with span.len (λ i. row W span.order (map T.value words.now) (span.word * W + span.head.0 + i)) (digit sought) }

@@ -2,7 +2,7 @@
 // go block by block: the left block waits in scratch words while the right one is copied over it.
 #![tactic(auto)]
 
-ghost use Rattle.std.specs.Prelude.{map, ◌≡◌, ℕ, ◌+◌, ◌*◌, ◌%◌, ◌≤◌, ◌<◌, length, get_or};
+ghost use Rattle.std.specs.Prelude.{map, ◌≡◌, ℕ, ◌+◌, ◌*◌, ◌%◌, ◌≤◌, length};
 ghost use Rattle.rules.specs.declared.Order.{Order};
 ghost use Rattle.rules.specs.Positions.{row, spliced};
 ghost use Rattle.rules.specs.Answers.{write_says, Swaps};
@@ -10,7 +10,7 @@ ghost use Rattle.rules.specs.Answers.{write_says, Swaps};
 use copy::copy_row;
 use refusals::check_copy;
 use rules::{Order, Refusal, Span, Width};
-use word::{Word, lead, least, put, read, write};
+use word::{Word, lead, least, put, read};
 
 // Each span gets the other's old bits; the lengths are equal. Refusals 1 to 3 of the left, 1 to 3 of the right, 6, 7.
 pub fn swap<T: Word<W>, const W: usize>(
@@ -96,7 +96,7 @@ fn piece<T: Word<W>, const W: usize>(
     put(right, order, s, n, x);
 }
 
-// k whole words of either row change sides. They are lent on as parts, so that the loop below begins at word 0.
+// k whole words of either row change sides.
 fn whole<T: Word<W>, const W: usize>(left: &mut [T], d: usize, right: &mut [T], s: usize, k: usize)
     requires { (1 ≤ k → d % W ≡ 0) × (d % W ≡ s % W) × (d + k * W ≤ length left.old * W) × (s + k * W ≤ length right.old * W)
         × (length left.old ≤ 65536) × (length right.old ≤ 65536) }
@@ -110,20 +110,7 @@ fn whole<T: Word<W>, const W: usize>(left: &mut [T], d: usize, right: &mut [T], 
     let e = a + k;
     let b = s / W;
     let f = b + k;
-    swap_words(&mut left[a..e], &mut right[b..f]);
-}
-
-// As many words of the one side as of the other change sides.
-fn swap_words<T: Word<W>, const W: usize>(left: &mut [T], right: &mut [T])
-    requires { length left.old ≡ length right.old }
-    ensures { ((k : ℕ) → k < length left.old → get_or (map T.value left.new) k 0 ≡ get_or (map T.value right.old) k 0)
-        × ((k : ℕ) → k < length left.old → get_or (map T.value right.new) k 0 ≡ get_or (map T.value left.old) k 0) }
-{
-    for i in 0..left.len() {
-        let x = read(left, i);
-        write(left, i, read(right, i));
-        write(right, i, x);
-    }
+    left[a..e].swap_with_slice(&mut right[b..f]);
 }
 
 // `len` bits at different heads change sides, through scratch words: 1024 bytes of them for a long row, and a few for a short one, so that it

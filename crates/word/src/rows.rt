@@ -38,7 +38,7 @@ pub fn part<T: Word<W>, const W: usize>(words: &[T], start: usize, end: usize) -
 pub fn least(a: usize, b: usize) -> usize
     ensures { result ≡ min a b }
 {
-    if a < b { a } else { b }
+    a.min(b)
 }
 
 // How many of `len` bits from place `at` on lie before the next word's start: none where a word starts there.

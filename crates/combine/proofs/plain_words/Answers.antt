@@ -1,8 +1,9 @@
 -- `plain_words`: below i each word is the step's, from i on it is the old one.
-use mathlib.Core.Path.{◌∙◌, ap₂}
+use mathlib.Core.Path.{sym, ap₂, ◌∙◌}
 use native.Mathlib.Omega.{arith}
 use lib.ListN.{get_or}
 use Rattle.std.specs.Prelude.{map}
+use Rattle.std.proofs.lemmas.List.{get_or-map}
 use Rattle.laws.proofs.Words.Typed.{number_read}
 use Rattle.laws.proofs.Rows.Filled.{words_filled}
 use Rattle.combine.proofs.plain_words.Goals as goal
@@ -16,4 +17,4 @@ loop-i-preserved g c f so =
     let before = l.invariant f so in
     words_filled w.value l.words l.i _ (λ k. f (get_or old k 0) (get_or right k 0)) old (omega arith) before
     (so _ _ _ c.step.ensures
-    ∙ ap₂ f (number_read w.value l.words l.i (omega arith) c.index-words-i.is ∙ before.1 l.i (omega arith)) (number_read w.value c.args.right.now l.i (omega arith) c.index-right-i.is))
+    ∙ ap₂ f (sym (get_or-map w.value l.words l.i _ 0 (omega arith)) ∙ before.1 l.i (omega arith)) (number_read w.value c.args.right.now l.i (omega arith) c.index-right-i.is))

@@ -51,6 +51,13 @@ tells_same false n b c k = go (same_bits n b c) refl
 pub tells_to : (t : Bool) (n : ℕ) (b c c' : ℕ → ℕ) → ((i : ℕ) → c i ≡ c' i) → Tells t n b c → Tells t n b c'
 tells_to t n b c c' e k = record { yes_all = λ q i l. k.yes_all q i l ∙ e i; all_yes = λ all. k.all_yes (λ i l. all i l ∙ sym (e i)) }
 
+-- the same of other names for both sides
+pub tells_as : (t : Bool) (n : ℕ) (b c : ℕ → ℕ) {k : ℕ} (b' c' : ℕ → ℕ) → k ≡ n → ((i : ℕ) → i < n → b' i ≡ b i) → ((i : ℕ) → i < n → c' i ≡ c i) → Tells t k b' c' → Tells t n b c
+tells_as t n b c {k} b' c' e eb ec d = record {
+  yes_all = λ q i l. sym (eb i l) ∙ d.yes_all q i (rw e l) ∙ ec i l;
+  all_yes = λ all. d.all_yes (λ i l. let m = rw e at l in eb i m ∙ all i m ∙ sym (ec i m));
+}
+
 -- a difference was seen, and a difference is tested
 pub tells_no : (n : ℕ) (b c : ℕ → ℕ) → (Agree n b c → ⊥) → Tells false n b c
 tells_no n b c never = record { yes_all = λ e. absurd (false≢true e); all_yes = λ all. absurd (never all) }

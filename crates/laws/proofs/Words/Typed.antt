@@ -2,7 +2,7 @@
 use mathlib.Core.Path.{◌≡◌, refl, sym, ap, ap₂, subst, ◌∙◌}
 use mathlib.Core.List.{List, [], ◌∷◌, ◌++◌}
 use Prim.Native.Nat.{ℕ, zero, suc, ◌+◌, ◌-◌, ◌*◌, ◌/◌, ◌%◌, ◌^◌, ◌≤◌, ◌<◌}
-use native.Mathlib.Nat.{mod-eq_of_lt, div-lt_iff_lt-mul, div-mul-le_self, add-mul, le_of_mul-le-mul_right, zero-mul, one-mul, mul-le-mul_right, div-add-mod', lt_of_mul-lt-mul_right}
+use native.Mathlib.Nat.{mod-eq_of_lt, div-lt_iff_lt-mul, div-mul-le_self, add-mul, le_of_mul-le-mul_right, zero-mul, one-mul, mul-le-mul_right}
 use native.Mathlib.Omega.{arith}
 use native.Mathlib.Decide.{dec_le}
 use lib.ListN.{length, get_or, take, drop}

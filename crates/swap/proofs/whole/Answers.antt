@@ -1,14 +1,13 @@
 -- `swap::whole` lends the words from a word's start on; each side gets the words of the other's row.
-use mathlib.Core.Path.{◌≡◌, ap, ◌∙◌}
+use mathlib.Core.Path.{ap, ◌∙◌}
 use Prim.Native.Nat.{ℕ, ◌+◌, ◌-◌, ◌*◌, ◌/◌, ◌≤◌}
 use native.Mathlib.Nat.{add-mul, zero-mul, div-add-mod', le_of_mul-le-mul_right}
 use native.Mathlib.Omega.{arith}
 use lib.ListN.{length, get_or}
-use borrow.Rule.Slice.PartMut.{mid_of}
 use Rattle.std.specs.Prelude.{List, map}
 use Rattle.std.proofs.lemmas.List.{length-map}
 use Rattle.rules.specs.Positions.{row}
-use Rattle.laws.proofs.Rows.Part.{none_put, mid_length}
+use Rattle.laws.proofs.Rows.Part.{none_put}
 use Rattle.laws.proofs.Words.Wholes.{lent_row, part_plain}
 use Rattle.laws.proofs.Words.Typed.{row_below, mid_map, lent_length, lent_map}
 use Rattle.swap.proofs.whole.Goals as goal
@@ -44,22 +43,18 @@ returns g c =
     let space : b + k ≤ length a.right.now = le_of_mul-le-mul_right (omega (arith, add-mul b k w, es, z)) m.some in
     let wl = row_below v w m.below a.left.now in
     let wr = row_below v w m.below a.right.now in
-    let el = mid_length a.left.now i (i + k - i) k (omega arith) room in
-    let ours : (j : ℕ) → get_or (map v (mid_of i (i + k - i) a.left.now)) j 0 ≡ get_or (mid_of i (i + k - i) l) j 0 =
-    λ j. ap (λ (x : List ℕ). get_or x j 0) (mid_map v i (i + k - i) a.left.now)
-    in
-    let theirs : (j : ℕ) → get_or (map v (mid_of b (b + k - b) a.right.now)) j 0 ≡ get_or (mid_of b (b + k - b) r) j 0 =
-    λ j. ap (λ (x : List ℕ). get_or x j 0) (mid_map v b (b + k - b) a.right.now)
-    in
-    let left = c.swap_words.new.left in
-    let right = c.swap_words.new.right in
+    let swap = c.swap_with_slice in
+    let left = swap.new.self in
+    let right = swap.new.other in
     λ o. (
       lent_map v i (i + k - i) a.left.now left
           ∙ lent_row w m.some o l (map v left) i (i + k - i) k a.d (omega arith) (omega (arith, ed, z)) (rw length-map room) wl
-          (lent_length v i (i + k - i) a.left.now left c.swap_words.auto.left) r a.s
-          (λ j n. c.swap_words.ensures.0 j (omega (arith, n, el)) ∙ theirs j ∙ part_plain w o r b a.s wr (omega (arith, es, z)) (b + k - b) j (omega arith)),
+          (lent_length v i (i + k - i) a.left.now left swap.ensures.len) r a.s
+          (λ j n. ap (λ (x : List ℕ). get_or x j 0) (ap (map v) swap.ensures.after ∙ mid_map v b (b + k - b) a.right.now)
+          ∙ part_plain w o r b a.s wr (omega (arith, es, z)) (b + k - b) j (omega arith)),
       lent_map v b (b + k - b) a.right.now right
           ∙ lent_row w m.some o r (map v right) b (b + k - b) k a.s (omega arith) (omega (arith, es, z)) (rw length-map space) wr
-          (lent_length v b (b + k - b) a.right.now right c.swap_words.auto.right) l a.d
-          (λ j n. c.swap_words.ensures.1 j (omega (arith, n, el)) ∙ ours j ∙ part_plain w o l i a.d wl (omega (arith, ed, z)) (i + k - i) j (omega arith)),
+          (lent_length v b (b + k - b) a.right.now right swap.ensures.other_len) l a.d
+          (λ j n. ap (λ (x : List ℕ). get_or x j 0) (ap (map v) swap.ensures.other_after ∙ mid_map v i (i + k - i) a.left.now)
+          ∙ part_plain w o l i a.d wl (omega (arith, ed, z)) (i + k - i) j (omega arith)),
     )

@@ -7,7 +7,7 @@ use Rattle.std.specs.Prelude.{map}
 use Rattle.rules.specs.declared.Order.TheVariants.{Lsb0}
 use Rattle.rules.proofs.Fields.Field.{load_lt}
 use Rattle.laws.proofs.Fields.Cuts.{joined}
-use Rattle.laws.proofs.Words.Typed.{row_below, word_within}
+use Rattle.laws.proofs.Words.Typed.{row_below, word_within, number_read}
 use Rattle.laws.proofs.Words.Wholes.{load_none, load_more}
 use Rattle.bits.proofs.parts.load_whole.Goals as goal
 
@@ -24,7 +24,7 @@ join-x-requires g c =
       omega arith,
       omega arith,
       rw (l.invariant Lsb0) (load_lt W g.met.T.Word.some Lsb0 a.significance (map g.T.Word.value a.part.now) 0 (l.i * W)),
-      c.word_at-word.ensures.1,
+      rw c.number.ensures (g.met.T.Word.below c.index-part-i.result),
     )
 
 pub loop-i-preserved : goal.loop-i-preserved
@@ -33,7 +33,7 @@ loop-i-preserved g c =
     let l = c.loop-i in
     let W = g.row.W in
     let m = g.met.T.Word in
-    λ o. c.join-x.ensures ∙ ap (λ (w : ℕ). joined a.significance l.x (l.i * W) w W) c.word_at-word.ensures.0
+    λ o. c.join-x.ensures ∙ ap (λ (w : ℕ). joined a.significance l.x (l.i * W) w W) (c.number.ensures ∙ number_read g.T.Word.value a.part.now l.i (omega arith) c.index-part-i.is)
     ∙ load_more W m.some o a.significance (map g.T.Word.value a.part.now) (row_below g.T.Word.value W m.below a.part.now) l.i (l.invariant o)
 
 pub returns : goal.returns

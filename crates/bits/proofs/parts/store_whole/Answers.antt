@@ -1,11 +1,11 @@
 -- `store_whole`: the words passed hold the first bits of the number, the others are as they were. Assumes nothing.
 use native.Mathlib.Omega.{arith}
 use native.Mathlib.Nat.{zero-mul, sub_self}
-use mathlib.Core.Path.{◌≡◌, refl, ap, ap₂, ◌∙◌}
+use mathlib.Core.Path.{◌≡◌, ap, ap₂, ◌∙◌}
 use Prim.Native.Nat.{ℕ, ◌+◌, ◌-◌, ◌*◌, ◌%◌, ◌^◌}
-use lib.ListN.{length, set, length-set}
+use lib.ListN.{length, set}
 use Rattle.std.specs.Prelude.{map}
-use Rattle.std.proofs.lemmas.List.{length-map}
+use Rattle.std.proofs.lemmas.List.{length-map, map-set}
 use Rattle.rules.specs.Fields.{store_of}
 use Rattle.laws.proofs.Fields.Cuts.{first_of_value, rest_of_value, first_all, store_none}
 use Rattle.laws.proofs.Words.Typed.{row_below, words_left}
@@ -17,7 +17,7 @@ loop-i-init g c =
     let a = c.args in
     let W = g.row.W in
     let m = g.met.T.Word in
-    (refl, λ o. rw zero-mul (store_none W m.some o a.significance _ (row_below g.T.Word.value W m.below a.part.now) 0 _))
+    λ o. rw zero-mul (store_none W m.some o a.significance _ (row_below g.T.Word.value W m.below a.part.now) 0 _)
 
 pub loop-i-preserved : goal.loop-i-preserved
 loop-i-preserved g c =
@@ -25,18 +25,16 @@ loop-i-preserved g c =
     let a = c.args in
     let e = a.significance in
     let W = g.row.W in
-    let ws = map g.T.Word.value a.part.now in
+    let v = g.T.Word.value in
+    let ws = map v a.part.now in
     let n = length a.part.now in
     let m = (n - 1 - l.i) * W in
     let more : (n - l.i) * W ≡ m + W = words_left W l.i n (omega arith) in
     let same : m ≡ (n - (l.i + 1)) * W = ap (λ (x : ℕ). x * W) (omega arith) in
-    let put = c.put_word.ensures in
-    let len : length (map g.T.Word.value c.put_word.new.words) ≡ length (map g.T.Word.value l.part) = ap length put ∙ length-set (map g.T.Word.value l.part) l.i _ in (
-      rw (length-map, length-map) at len ∙ l.invariant.0,
-      λ o. put ∙ ap (λ (x : ℕ). set (map g.T.Word.value l.part) l.i (x % 2 ^ W)) (c.rest_of-word.ensures ∙ ap (λ (x : ℕ). rest_of_value e x (l.i * W)) c.first_of-upper.ensures)
-          ∙ store_more W g.met.T.Word.some o e ws l.i m a.v (rw length-map (omega arith)) (l.invariant.1 o ∙ ap (λ (x : ℕ). store_of W o e ws 0 (l.i * W) (first_of_value e a.v x)) more)
-          ∙ ap (λ (x : ℕ). store_of W o e ws 0 ((l.i + 1) * W) (first_of_value e a.v x)) same,
-    )
+    let word : v c.of.result ≡ rest_of_value e (first_of_value e a.v m) (l.i * W) % 2 ^ W = rw (c.rest_of.ensures, c.first_of-upper.ensures) at c.of.ensures in
+    λ o. map-set v l.part l.i c.of.result ∙ ap (set (map v l.part) l.i) word
+    ∙ store_more W g.met.T.Word.some o e ws l.i m a.v (rw length-map (omega arith)) (l.invariant o ∙ ap (λ (x : ℕ). store_of W o e ws 0 (l.i * W) (first_of_value e a.v x)) more)
+    ∙ ap (λ (x : ℕ). store_of W o e ws 0 ((l.i + 1) * W) (first_of_value e a.v x)) same
 
 pub returns : goal.returns
 returns g c =
@@ -48,5 +46,5 @@ returns g c =
     let n = length a.part.now in
     let all : l.i ≡ n = omega arith in
     let none : (n - l.i) * W ≡ 0 = rw all (rw sub_self (zero-mul W)) in
-    λ o. l.invariant.1 o ∙ ap₂ (λ (x y : ℕ). store_of W o e ws 0 (x * W) (first_of_value e a.v y)) all none
+    λ o. l.invariant o ∙ ap₂ (λ (x y : ℕ). store_of W o e ws 0 (x * W) (first_of_value e a.v y)) all none
     ∙ ap (store_of W o e ws 0 (n * W)) (first_all e a.v)

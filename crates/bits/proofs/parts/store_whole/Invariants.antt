@@ -1,7 +1,6 @@
 -- `store_whole`: the words passed hold the first bits of the number, the others are as they were. Assumes nothing.
 use mathlib.Core.Path.{◌≡◌}
 use Prim.Native.Nat.{◌-◌, ◌*◌}
-use lib.ListN.{length}
 use Rattle.std.specs.Prelude.{map}
 use Rattle.rules.specs.declared.Order.{Order}
 use Rattle.rules.specs.Fields.{store_of}
@@ -11,5 +10,5 @@ use Rattle.bits.proofs.parts.store_whole.Given as goal
 abbrev pub invariant-loop-i : goal.invariant-loop-i
 invariant-loop-i g l =
     let W = g.row.W in
-    (length l.part ≡ length l.initial.part)
-    × ((o : Order) → map g.T.Word.value l.part ≡ store_of W o l.significance (map g.T.Word.value l.initial.part) 0 (l.i * W) (first_of_value l.significance l.v ((l.n - l.i) * W)))
+    let ws = map g.T.Word.value l.initial.part in
+    (o : Order) → map g.T.Word.value l.part ≡ store_of W o l.significance ws 0 (l.i * W) (first_of_value l.significance l.v ((l.n - l.i) * W))
