@@ -43,8 +43,8 @@ returns g c =
     let t = r + k * W in
     let u = div-mul-le_self (a.len - r) W in
     tells_same _ a.len (λ i. b (a.p + i)) (λ i. d (a.q + i))
-    (rw c.number-three.ensures (tells_zero _ a.len (λ i. b (a.p + i)) (λ i. d (a.q + i))
+    (tells_zero c.number-three.result a.len (λ i. b (a.p + i)) (λ i. d (a.q + i))
     (differs_on t (a.len - t) a.len (λ i. b (a.p + i)) (λ i. d (a.q + i)) (λ i. b (a.p + t + i)) (λ i. d (a.q + t + i)) (λ j l. ap b (add_assoc a.p t j)) (λ j l. ap d (add_assoc a.q t j)) (omega (arith, u))
     (agree_on r (k * W) t (λ i. b (a.p + i)) (λ i. d (a.q + i)) (λ i. b (a.p + r + i)) (λ i. d (a.q + r + i)) (λ j l. ap b (add_assoc a.p r j)) (λ j l. ap d (add_assoc a.q r j)) refl (c.differ_piece.ensures.none_all (rw c.number-one.ensures at c.if-one-ne0.false))
     (c.equal_whole-two.ensures.yes_all c.if-not-two.false))
-    _ c.differ_piece-2.ensures)))
+    c.number-three.result (rw (sym c.number-three.ensures) at c.differ_piece-2.ensures)))
