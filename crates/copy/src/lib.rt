@@ -118,7 +118,7 @@ fn bits<T: Word<W>, const W: usize>(
     put(words, order, d, n, v);
 }
 
-// k whole words of the target from place d on. They are lent on as a part of their own, so that the loop below begins at word 0.
+// k whole words of the target from place d on. They are lent on as a part of their own, so that the loops below begin at word 0.
 fn whole<T: Word<W>, const W: usize>(
     words: &mut [T],
     order: Order,
@@ -139,7 +139,7 @@ fn whole<T: Word<W>, const W: usize>(
     let h = s % W;
     if h == 0 {
         let f = b + k;
-        words[a..e].copy_from_slice(part(source, b, f));
+        plain_words(&mut words[a..e], part(source, b, f));
         return;
     }
     let f = b + k + 1;
@@ -159,5 +159,15 @@ fn funnel_words<T: Word<W>, const W: usize>(
 {
     for (i, word) in words.iter_mut().enumerate() {
         *word = joined(order, head, source[i], source[i + 1]);
+    }
+}
+
+// Word i becomes the source's word i. It is a loop of the library's own, so that the archive asks its user for no function that moves memory.
+fn plain_words<T: Word<W>, const W: usize>(words: &mut [T], source: &[T])
+    requires { length words.old ≤ length source.now }
+    ensures { (k : ℕ) → k < length words.old → get_or (map T.value words.new) k 0 ≡ get_or (map T.value source.now) k 0 }
+{
+    for (i, word) in words.iter_mut().enumerate() {
+        *word = source[i];
     }
 }

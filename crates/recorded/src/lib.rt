@@ -1,11 +1,9 @@
-// A record's call, made as other languages make it: the words as the record has them, the call, and what is seen after it.
+// A record's call, made through the function that is exported to other languages: the words as the record has them, the call, and what is seen after it.
 #![tactic(auto)]
 
 mod fields;
-mod given;
 mod rows;
 mod searches;
-mod spans;
 mod unlent;
 mod words;
 

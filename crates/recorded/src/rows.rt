@@ -1,10 +1,8 @@
 // A record's call on rows of words.
-use crate::given;
-use crate::spans::named;
 use records::arguments::{COUNT, DESTINATION, OPERATION, START};
 use records::record::Record;
 use records::seen::Given;
-use stableply::rows;
+use stableply::exported::rows;
 use word::Word;
 
 // Copies from the words lent second to those lent first.
@@ -13,17 +11,31 @@ pub fn copy_from<T: Word<W>, const W: usize>(
     words: &mut [T],
     source: &[T],
 ) -> Given {
-    let span = named(record.span());
-    let source_span = named(record.second_span());
-    given::write(rows::copy_from(words, span, source, source_span))
+    let span = record.span();
+    let from = record.second_span();
+    Given::none(rows::copy_from(
+        words,
+        span.order,
+        span.word,
+        span.head,
+        span.length,
+        source,
+        from.order,
+        from.word,
+        from.head,
+        from.length,
+    ))
 }
 
 // Copies within the words lent first.
 pub fn copy_within<T: Word<W>, const W: usize>(record: Record<'_>, words: &mut [T]) -> Given {
-    let span = named(record.span());
-    given::write(rows::copy_within(
+    let span = record.span();
+    Given::none(rows::copy_within(
         words,
-        span,
+        span.order,
+        span.word,
+        span.head,
+        span.length,
         record.size(START),
         record.size(COUNT),
         record.size(DESTINATION),
@@ -36,9 +48,21 @@ pub fn boolean<T: Word<W>, const W: usize>(
     words: &mut [T],
     right: &[T],
 ) -> Given {
-    let span = named(record.span());
-    let right_span = named(record.second_span());
-    given::write(rows::boolean(words, span, right, right_span, record.code(OPERATION)))
+    let span = record.span();
+    let other = record.second_span();
+    Given::none(rows::boolean(
+        words,
+        span.order,
+        span.word,
+        span.head,
+        span.length,
+        right,
+        other.order,
+        other.word,
+        other.head,
+        other.length,
+        record.code(OPERATION),
+    ))
 }
 
 // Exchanges the spans of the two buffers.
@@ -47,14 +71,39 @@ pub fn swap<T: Word<W>, const W: usize>(
     left: &mut [T],
     right: &mut [T],
 ) -> Given {
-    let left_span = named(record.span());
-    let right_span = named(record.second_span());
-    given::write(rows::swap(left, left_span, right, right_span))
+    let span = record.span();
+    let other = record.second_span();
+    Given::none(rows::swap(
+        left,
+        span.order,
+        span.word,
+        span.head,
+        span.length,
+        right,
+        other.order,
+        other.word,
+        other.head,
+        other.length,
+    ))
 }
 
 // Compares the spans of the two buffers.
 pub fn equal<T: Word<W>, const W: usize>(record: Record<'_>, left: &[T], right: &[T]) -> Given {
-    let left_span = named(record.span());
-    let right_span = named(record.second_span());
-    given::equal(rows::equal(left, left_span, right, right_span))
+    let span = record.span();
+    let other = record.second_span();
+    let mut out = 0u8;
+    let code = rows::equal(
+        left,
+        span.order,
+        span.word,
+        span.head,
+        span.length,
+        right,
+        other.order,
+        other.word,
+        other.head,
+        other.length,
+        &mut out,
+    );
+    Given::one(code, out as u64)
 }

@@ -1,6 +1,6 @@
 // Replays a file of recorded requests, which the program's first argument names; vectors/README.md describes its form. Each call is made
-// as an export of `stableply_c` makes it. What it returns, its out-values and every lent word afterwards are compared with the record. The
-// program prints the first disagreement, if there is one, and then counts for each call.
+// through the function of the crate `stableply` that is exported for C. What it returns, its out-values and every lent word afterwards are
+// compared with the record. The program prints the first disagreement, if there is one, and then counts for each call.
 #![tactic(auto)]
 
 mod replay;

@@ -10,7 +10,8 @@ use rules::{Index, Order, Span};
 use word::{Word, flip, last_end, least};
 
 // Where a search of a span ends. The last word settles it, or the words before it do. What is further is called
-// apart for ones and for zeros, which keeps the loops out of line and this function short.
+// apart for ones and for zeros, which keeps the loops out of line and this function short. It stands in its callers, each of which seeks one kind.
+#[inline(always)]
 pub fn last_in_row<T: Word<W>, const W: usize>(words: &[T], span: Span, sought: bool) -> usize
     requires { (span.head.0 < W) × (span.word * W + span.head.0 + span.len ≤ length words.now * W) × (length words.now ≤ 65536) }
     ensures { result ≡ last_with span.len (λ i. row W span.order (map T.value words.now) (span.word * W + span.head.0 + i)) (digit sought) }

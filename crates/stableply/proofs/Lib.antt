@@ -1,1 +1,2 @@
 mod OnlyOne
+mod OnlyOneExported

@@ -4,8 +4,7 @@ ghost use Rattle.rules.specs.Fields.{whole};
 ghost use Rattle.rules.specs.Calls.{read_bit, write_bit, load, store, store_strict, answer};
 ghost use Rattle.border.specs.Border.{span_of, bit_of, significance_of, sign_of, number_of, none, behind, Told, Wrote};
 
-use border::{NamedSpan, leave_bit, leave_number, leave_write};
-use stableply::fields;
+use stableply::exported::fields;
 
 // One bit of a span, as 0 or 1.
 #[unsafe(no_mangle)]
@@ -21,8 +20,7 @@ pub extern "C" fn stableply64_read_bit(
     ensures { Told (behind (none order) (answer 64 (read_bit (span_of order word head length) index) words.now)) out.old result
         out.new }
 {
-    let span = NamedSpan::new(order, word, head, length);
-    leave_bit(fields::read_bit(words, span, index), out)
+    fields::read_bit(words, order, word, head, length, index, out)
 }
 
 // Sets one bit of a span to 0 or 1.
@@ -40,8 +38,7 @@ pub extern "C" fn stableply64_write_bit(
         (write_bit (span_of order word head length) index (bit_of bit))
         words.old result words.new }
 {
-    let span = NamedSpan::new(order, word, head, length);
-    leave_write(fields::write_bit(words, span, index, bit))
+    fields::write_bit(words, order, word, head, length, index, bit)
 }
 
 // The number that a field holds; a signed one in two's complement.
@@ -62,8 +59,7 @@ pub extern "C" fn stableply64_load(
         (answer 64 (load (span_of order word head length) k (significance_of significance) (sign_of sign)) words.now)) out.old result
         out.new }
 {
-    let span = NamedSpan::new(order, word, head, length);
-    leave_number(fields::load(words, span, k, significance, sign), out)
+    fields::load(words, order, word, head, length, k, significance, sign, out)
 }
 
 // Places the low bits of a value in a field.
@@ -84,8 +80,18 @@ pub extern "C" fn stableply64_store(
         (store (span_of order word head length) k (significance_of significance) (sign_of sign) (whole (number_of below value)))
         words.old result words.new }
 {
-    let span = NamedSpan::new(order, word, head, length);
-    leave_write(fields::store(words, span, k, significance, sign, below, value))
+    fields::store(
+        words,
+        order,
+        word,
+        head,
+        length,
+        k,
+        significance,
+        sign,
+        below,
+        value,
+    )
 }
 
 // The same, but only for a value that fits.
@@ -106,6 +112,16 @@ pub extern "C" fn stableply64_store_strict(
         (store_strict (span_of order word head length) k (significance_of significance) (sign_of sign) (whole (number_of below value)))
         words.old result words.new }
 {
-    let span = NamedSpan::new(order, word, head, length);
-    leave_write(fields::store_strict(words, span, k, significance, sign, below, value))
+    fields::store_strict(
+        words,
+        order,
+        word,
+        head,
+        length,
+        k,
+        significance,
+        sign,
+        below,
+        value,
+    )
 }

@@ -3,8 +3,7 @@ ghost use Rattle.std.specs.Prelude.{◌||◌};
 ghost use Rattle.rules.specs.Calls.{here, there, copy_from, copy_within, boolean, equal, answer};
 ghost use Rattle.border.specs.Border.{span_of, none, no_operation, behind, Told, Wrote, Swapped};
 
-use border::{NamedSpan, leave_equal, leave_write};
-use stableply::rows;
+use stableply::exported::rows;
 
 // Copies a span of another buffer, bit for bit.
 #[unsafe(no_mangle)]
@@ -24,9 +23,18 @@ pub extern "C" fn stableply8_copy_from(
         (copy_from (span_of order word head length) source.now (span_of from_order from_word from_head from_length))
         words.old result words.new }
 {
-    let span = NamedSpan::new(order, word, head, length);
-    let source_span = NamedSpan::new(from_order, from_word, from_head, from_length);
-    leave_write(rows::copy_from(words, span, source, source_span))
+    rows::copy_from(
+        words,
+        order,
+        word,
+        head,
+        length,
+        source,
+        from_order,
+        from_word,
+        from_head,
+        from_length,
+    )
 }
 
 // Copies bits of a span to another place in it, as if all were read first.
@@ -45,8 +53,7 @@ pub extern "C" fn stableply8_copy_within(
         (copy_within (span_of order word head length) start count destination)
         words.old result words.new }
 {
-    let span = NamedSpan::new(order, word, head, length);
-    leave_write(rows::copy_within(words, span, start, count, destination))
+    rows::copy_within(words, order, word, head, length, start, count, destination)
 }
 
 // Combines a span with a right side, into the span. The operation is its truth table's number: and 8, or 14, xor 6.
@@ -68,9 +75,19 @@ pub extern "C" fn stableply8_boolean(
         (boolean operation (span_of order word head length) right.now (span_of right_order right_word right_head right_length))
         words.old result words.new }
 {
-    let span = NamedSpan::new(order, word, head, length);
-    let right_span = NamedSpan::new(right_order, right_word, right_head, right_length);
-    leave_write(rows::boolean(words, span, right, right_span, operation))
+    rows::boolean(
+        words,
+        order,
+        word,
+        head,
+        length,
+        right,
+        right_order,
+        right_word,
+        right_head,
+        right_length,
+        operation,
+    )
 }
 
 // Exchanges two spans of two buffers.
@@ -92,9 +109,18 @@ pub extern "C" fn stableply8_swap(
         right.old (span_of right_order right_word right_head right_length)
         result left.new right.new }
 {
-    let left_span = NamedSpan::new(order, word, head, length);
-    let right_span = NamedSpan::new(right_order, right_word, right_head, right_length);
-    leave_write(rows::swap(left, left_span, right, right_span))
+    rows::swap(
+        left,
+        order,
+        word,
+        head,
+        length,
+        right,
+        right_order,
+        right_word,
+        right_head,
+        right_length,
+    )
 }
 
 // Whether two spans have the same length and bits, as 1 or 0.
@@ -118,7 +144,17 @@ pub extern "C" fn stableply8_equal(
         (equal here (span_of order word head length) (there right.now)
         (span_of right_order right_word right_head right_length)) left.now)) out.old result out.new }
 {
-    let left_span = NamedSpan::new(order, word, head, length);
-    let right_span = NamedSpan::new(right_order, right_word, right_head, right_length);
-    leave_equal(rows::equal(left, left_span, right, right_span), out)
+    rows::equal(
+        left,
+        order,
+        word,
+        head,
+        length,
+        right,
+        right_order,
+        right_word,
+        right_head,
+        right_length,
+        out,
+    )
 }

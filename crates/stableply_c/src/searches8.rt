@@ -2,8 +2,7 @@
 ghost use Rattle.rules.specs.Calls.{find_first, find_last, answer};
 ghost use Rattle.border.specs.Border.{span_of, none, behind, Found};
 
-use border::{NamedSpan, leave_found};
-use stableply::searches;
+use stableply::exported::searches;
 
 // The smallest index of a one, counted from the span's start, or absent.
 #[unsafe(no_mangle)]
@@ -19,8 +18,7 @@ pub extern "C" fn stableply8_first_one(
     ensures { Found (behind (none order) (answer 8 (find_first 1 (span_of order word head length)) words.now)) found.old
         at.old result found.new at.new }
 {
-    let span = NamedSpan::new(order, word, head, length);
-    leave_found(searches::first_one(words, span), found, at)
+    searches::first_one(words, order, word, head, length, found, at)
 }
 
 // The largest index of a one.
@@ -37,8 +35,7 @@ pub extern "C" fn stableply8_last_one(
     ensures { Found (behind (none order) (answer 8 (find_last 1 (span_of order word head length)) words.now)) found.old
         at.old result found.new at.new }
 {
-    let span = NamedSpan::new(order, word, head, length);
-    leave_found(searches::last_one(words, span), found, at)
+    searches::last_one(words, order, word, head, length, found, at)
 }
 
 // The smallest index of a zero.
@@ -55,8 +52,7 @@ pub extern "C" fn stableply8_first_zero(
     ensures { Found (behind (none order) (answer 8 (find_first 0 (span_of order word head length)) words.now)) found.old
         at.old result found.new at.new }
 {
-    let span = NamedSpan::new(order, word, head, length);
-    leave_found(searches::first_zero(words, span), found, at)
+    searches::first_zero(words, order, word, head, length, found, at)
 }
 
 // The largest index of a zero.
@@ -73,6 +69,5 @@ pub extern "C" fn stableply8_last_zero(
     ensures { Found (behind (none order) (answer 8 (find_last 0 (span_of order word head length)) words.now)) found.old
         at.old result found.new at.new }
 {
-    let span = NamedSpan::new(order, word, head, length);
-    leave_found(searches::last_zero(words, span), found, at)
+    searches::last_zero(words, order, word, head, length, found, at)
 }

@@ -4,15 +4,14 @@ ghost use Rattle.rules.specs.Bits.{bits};
 ghost use Rattle.rules.specs.Calls.{position_answer, selector_answer, mask_answer, split_answer};
 ghost use Rattle.border.specs.Border.{order_of, span_of, none, no_width, behind, Told, Rest};
 
-use border::{NamedSpan, leave_mask, leave_position, leave_rest, leave_selector};
-use stableply::unlent;
+use stableply::exported::unlent;
 
 // The real position of an index in a word of 8 or 64 bits.
 #[unsafe(no_mangle)]
 pub extern "C" fn stableply_position(width: u8, order: u8, index: usize, out: &mut u64) -> u8
     ensures { Told (behind (no_width width || none order) (position_answer width (order_of order) index)) out.old result out.new }
 {
-    leave_position(unlent::position(width, order, index), out)
+    unlent::position(width, order, index, out)
 }
 
 // The selector of an index in a word of 8 or 64 bits: 2 to its position.
@@ -20,7 +19,7 @@ pub extern "C" fn stableply_position(width: u8, order: u8, index: usize, out: &m
 pub extern "C" fn stableply_selector(width: u8, order: u8, index: usize, out: &mut u64) -> u8
     ensures { Told (behind (no_width width || none order) (selector_answer width (order_of order) index)) out.old result out.new }
 {
-    leave_selector(unlent::selector(width, order, index), out)
+    unlent::selector(width, order, index, out)
 }
 
 // The mask of the indexes of a word of 8 or 64 bits from `from` up to but without `upto`.
@@ -34,7 +33,7 @@ pub extern "C" fn stableply_mask(
 ) -> u8
     ensures { Told (behind (no_width width || none order) (mask_answer width (order_of order) from upto)) out.old result out.new }
 {
-    leave_mask(unlent::mask(width, order, from, upto), out)
+    unlent::mask(width, order, from, upto, out)
 }
 
 // The rest of a span of words of 8 or 64 bits after its first `place` bits. The first half is the span itself with the length `place`.
@@ -55,9 +54,14 @@ pub extern "C" fn stableply_split(
         rest_word.old rest_head.old rest_length.old result rest_word.new rest_head.new
         rest_length.new }
 {
-    let span = NamedSpan::new(order, word, head, length);
-    leave_rest(
-        unlent::split(width, lent, span, place),
+    unlent::split(
+        width,
+        lent,
+        order,
+        word,
+        head,
+        length,
+        place,
         rest_word,
         rest_head,
         rest_length,

@@ -145,8 +145,8 @@ fn whole_up<T: Word<W>, const W: usize>(
     joined_up(words, order, Index(h), b, a, k);
 }
 
-// Each of the k words after word b becomes the one before it joined with itself at a head, the last one first. The loop speaks of word b alone, so that
-// the compiler sees which words overlap.
+// Each of the k words after word b becomes the one before it joined with itself at a head, the last one first. The loop speaks of word b alone, and
+// of its two words by one place, so that the compiler sees which words overlap, and reads both: it is slower where one is carried from turn to turn.
 fn joined_next<T: Word<W>, const W: usize>(
     words: &mut [T],
     order: Order,
@@ -157,8 +157,9 @@ fn joined_next<T: Word<W>, const W: usize>(
     requires { (1 ≤ head.0) × (head.0 < W) × (b + 1 + k ≤ length words.old) × (length words.old ≤ 65536) }
     ensures { map T.value words.new ≡ moved W order (map T.value words.old) (b * W + head.0) ((b + 1) * W) (k * W) }
 {
-    for i in (0..k).rev() {
-        words[b + 1 + i] = joined(order, head, words[b + i], words[b + 1 + i]);
+    for i in (1..k + 1).rev() {
+        let at = b + i;
+        words[at] = joined(order, head, words[at - 1], words[at]);
     }
 }
 

@@ -33,11 +33,11 @@ returns-then-h-eq0 g c =
     let room : i + a.k ≤ length a.words.now = le_of_mul-le-mul_right (omega (arith, add-mul i a.k w, ed, z)) m.some in
     let ws = map v a.words.now in
     let vs = map v a.source.now in
-    let left = c.copy_from_slice.new.self in
+    let left = c.plain_words.new.words in
     lent_map v i (i + a.k - i) a.words.now left
     ∙ lent_row w m.some a.order ws (map v left) i (i + a.k - i) a.k a.d (omega arith) (omega (arith, ed, z)) (rw length-map room) (row_below v w m.below a.words.now)
-    (lent_length v i (i + a.k - i) a.words.now left c.copy_from_slice.ensures.len) vs a.s
-    (λ j l. ap (λ (x : List ℕ). get_or x j 0) (ap (map v) c.copy_from_slice.ensures.after ∙ c.part.ensures.0)
+    (lent_length v i (i + a.k - i) a.words.now left c.plain_words.auto.words) vs a.s
+    (λ j l. rw c.part.ensures.0 at (c.plain_words.ensures j (omega (arith, l, mid_length a.words.now i (i + a.k - i) a.k (omega arith) room)))
     ∙ part_plain w a.order vs b a.s (row_below v w m.below a.source.now) (omega (arith, es)) (b + a.k - b) j (omega arith))
 
 pub returns : goal.returns

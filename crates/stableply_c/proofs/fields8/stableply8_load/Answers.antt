@@ -1,7 +1,7 @@
--- The library's answer leaves, and the numbers of its words are the lent words. Assumes nothing.
+-- What the library's call promises over the words as numbers, since those are the lent words. Assumes nothing.
 use borrow.Author.Rules.{rules}
 use Rattle.laws.proofs.Words.Lent.{lent_8}
 use Rattle.stableply_c.proofs.fields8.stableply8_load.Goals as goal
 
 pub returns : goal.returns
-returns c = rw (c.load.ensures, c.new-span.ensures, lent_8 c.args.words.now (search rules)) at c.leave_number.ensures
+returns c = rw (lent_8 c.args.words.now (search rules)) at c.load.ensures

@@ -1,7 +1,7 @@
--- The library's answer leaves, and the numbers of its words are the lent words. Assumes nothing.
+-- What the library's call promises over the words as numbers, since those are the lent words. Assumes nothing.
 use borrow.Author.Rules.{rules}
 use Rattle.laws.proofs.Words.Lent.{lent_64}
 use Rattle.stableply_c.proofs.rows64.stableply64_equal.Goals as goal
 
 pub returns : goal.returns
-returns c = rw (c.equal.ensures, c.new-left_span.ensures, c.new-right_span.ensures, lent_64 c.args.left.now (search rules), lent_64 c.args.right.now (search rules)) at c.leave_equal.ensures
+returns c = rw (lent_64 c.args.left.now (search rules), lent_64 c.args.right.now (search rules)) at c.equal.ensures

@@ -1,5 +1,5 @@
--- The library's answer leaves. Assumes nothing.
+-- What the library's call promises. Assumes nothing.
 use Rattle.stableply_c.proofs.unlent.stableply_mask.Goals as goal
 
 pub returns : goal.returns
-returns c = rw c.mask.ensures at c.leave_mask.ensures
+returns c = c.mask.ensures

@@ -1,5 +1,5 @@
--- The library's answer leaves. Assumes nothing.
+-- What the library's call promises. Assumes nothing.
 use Rattle.stableply_c.proofs.unlent.stableply_split.Goals as goal
 
 pub returns : goal.returns
-returns c = rw (c.split.ensures, c.new-span.ensures) at c.leave_rest.ensures
+returns c = c.split.ensures
