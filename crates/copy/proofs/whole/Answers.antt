@@ -1,10 +1,10 @@
 -- `copy::whole` lends the words from a word's start on; each comes back as the word of the source row that belongs there.
-use mathlib.Core.Path.{ap, ◌∙◌}
-use Prim.Native.Nat.{ℕ, ◌+◌, ◌-◌, ◌*◌, ◌/◌, ◌%◌, ◌≤◌}
+use mathlib.Core.Path.{◌∙◌}
+use Prim.Native.Nat.{◌+◌, ◌-◌, ◌*◌, ◌/◌, ◌%◌, ◌≤◌}
 use native.Mathlib.Nat.{add-mul, zero-mul, div-add-mod', mod-lt, le_of_mul-le-mul_right}
 use native.Mathlib.Omega.{arith}
-use lib.ListN.{length, get_or}
-use Rattle.std.specs.Prelude.{List, map}
+use lib.ListN.{length}
+use Rattle.std.specs.Prelude.{map}
 use Rattle.std.proofs.lemmas.List.{length-map}
 use Rattle.rules.specs.Positions.{row}
 use Rattle.laws.proofs.Rows.Part.{mid_length, none_put}

@@ -112,3 +112,7 @@ part_length from upto ws le room = simp (length-take, length-drop) (omega arith)
 -- rows of words whose numbers are the same are the same
 pub same_words : (W : ℕ) (xs ys : List ℕ) → Words W xs → Words W ys → map (λ (x : ℕ). x % 2 ^ W) xs ≡ map (λ (x : ℕ). x % 2 ^ W) ys → xs ≡ ys
 same_words W xs ys small below e = sym (as_they_are W xs small) ∙ e ∙ as_they_are W ys below
+
+-- the same of rows of machine integers that are as wide as their numbers are taken to be
+pub same_integers : (W : ℕ) (value : ℕ → ℕ) → value ≡ (λ (x : ℕ). x % 2 ^ W) → (xs ys : List ℕ) → Words W xs → Words W ys → map value xs ≡ map value ys → xs ≡ ys
+same_integers W value e xs ys small below same = same_words W xs ys small below (subst (λ (f : ℕ → ℕ). map f xs ≡ map f ys) e same)
