@@ -1,6 +1,5 @@
 // The exported calls without lent words.
 ghost use Rattle.std.specs.Prelude.{◌||◌};
-ghost use Rattle.rules.specs.Bits.{bits};
 ghost use Rattle.rules.specs.Calls.{position_answer, selector_answer, mask_answer, split_answer};
 ghost use Rattle.border.specs.Border.{order_of, span_of, none, no_width, behind, Told, Rest};
 

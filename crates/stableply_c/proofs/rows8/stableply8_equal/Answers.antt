@@ -4,4 +4,4 @@ use Rattle.laws.proofs.Words.Lent.{lent_8}
 use Rattle.stableply_c.proofs.rows8.stableply8_equal.Goals as goal
 
 pub returns : goal.returns
-returns c = rw (lent_8 c.args.left.now (search rules), lent_8 c.args.right.now (search rules)) at c.equal.ensures
+returns c = rw (← lent_8 c.args.left.now (search rules), ← lent_8 c.args.right.now (search rules)) c.equal.ensures
